@@ -1,0 +1,3 @@
+// Views, messages and the stores that keep them.
+pub mod message;
+pub mod view;
