@@ -12,7 +12,7 @@ use Rattle.std.specs.Options.{mapped}
 use Rattle.std.specs.declared.option.Option.{Option}
 use Rattle.std.specs.declared.option.Option.the-variants.{Some, None}
 use Rattle.lines.specs.Fields.{field, fields, with-first, and-then}
-use Rattle.lines.specs.Reading.{set-in}
+use Rattle.lines.specs.Reading.{set-in, Six}
 
 abbrev pub both : Option (List ℕ) → Option (List ℕ) → Option (List ℕ)
 both None b = None
@@ -27,10 +27,6 @@ alone (Some v) = Some (v ∷ [])
 abbrev pub prepend : Option (List ℕ) → Option (Option (List ℕ) × List ℕ) → Option (Option (List ℕ) × List ℕ)
 prepend a None = None
 prepend a (Some g) = Some (both a (g .0), g .1)
-
-abbrev pub Six : Option (List ℕ) → Type 0
-Six None = Unit {0}
-Six (Some vs) = length vs ≡ 6
 
 both-none : (b : Option (List ℕ)) → both (Some []) b ≡ b
 both-none None = refl

@@ -1,3 +1,5 @@
+pub mod Options
 pub mod Numbers
 pub mod Gathered
 pub mod Answered
+pub mod Spelled

@@ -38,9 +38,17 @@ abbrev pub firsts : ℕ → Option Fields → Option (Option (List ℕ))
 firsts n None = None
 firsts n (Some f) = Some (mapped (take n) (f .numbers))
 
+abbrev pub Six : Option (List ℕ) → Type 0
+Six None = Unit {0}
+Six (Some vs) = length vs ≡ 6
+
+abbrev pub SixIn : Option Fields → Type 0
+SixIn None = Unit {0}
+SixIn (Some f) = Six (f .numbers)
+
 abbrev pub ReadsAll : ℕ → Option (Option (List ℕ) × List ℕ) → Option Fields → List ℕ → Type 0
 ReadsAll n None r after = r ≡ None
-ReadsAll n (Some g) r after = (firsts n r ≡ Some (g .0)) × (after ≡ g .1)
+ReadsAll n (Some g) r after = (firsts n r ≡ Some (g .0)) × (after ≡ g .1) × SixIn r
 
 -- the answer of a reader, where n numbers were to be read
 abbrev pub numbers-of : ℕ → Result (List ℕ) LineFault → Result (List ℕ) LineFault

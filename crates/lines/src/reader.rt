@@ -146,4 +146,35 @@ impl<'a> Reader<'a> {
         }
         Some(Fields { numbers })
     }
+
+    // The letter of the line that comes next.
+    pub fn letter(&self) -> Option<char>
+        ensures { λ r. ⌜ r ≡ letter (now (now (self .entry) .rest)) ⌝ }
+    {
+        if self.rest.is_empty() { None } else { Some(self.rest[0] as char) }
+    }
+
+    // Reads a line with such fields, whatever its letter. A line that is refused is not passed.
+    pub fn line(&mut self, limits: Limits) -> Result<[u32; 6], LineFault>
+        ensures numbers { λ r. ⌜ numbers-of (limits .count) r ≡ read (line (listed limits) (now (now (self .entry) .rest))) ⌝ }
+        ensures left { λ _. ⌜ now (now (self .exit) .rest) ≡ unread (line (listed limits) (now (now (self .entry) .rest))) (now (now (self .entry) .rest)) ⌝ }
+        ensures within { λ r. ⌜ Cases r (λ vs. (length vs ≡ 6) × Within 0 (listed limits) vs) (λ _. Unit {0}) ⌝ }
+    {
+        if self.rest.is_empty() {
+            return Err(LineFault::Form);
+        }
+        let mut line = Reader { rest: self.rest };
+        line.skip(1);
+        let Some(fields) = line.fields(limits) else {
+            return Err(LineFault::Form);
+        };
+        if !line.pass(b'\n') {
+            return Err(LineFault::Form);
+        }
+        let Some(numbers) = fields.numbers else {
+            return Err(LineFault::Range);
+        };
+        self.rest = line.rest;
+        Ok(numbers)
+    }
 }

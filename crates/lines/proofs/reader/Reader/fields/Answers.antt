@@ -18,7 +18,7 @@ loop-k-again c =
     let ms = take (c .min-count .result - 0) (c .args .limits .most) in
     let k = c .loop-k .k in
     let rest = c .field .last .self .rest .now in
-    let e = read-some (field (getD ms k 0) (c .loop-k .self .rest .now)) (c .in-Continue-field .field) _ (c .in-Continue-field .ensures tt) in
+    let e = read-some (field (getD ms k 0) (c .loop-k .self .rest .now)) (c .in-Continue-field .field) rest (c .in-Continue-field .ensures tt) in
     let short : k < 6 = omega arith in
     let more = fields-more ms k (c .loop-k-test .taken) (mapped (take k) (c .loop-k .numbers)) (c .loop-k .self .rest .now) (c .in-Continue-field .field .number) rest e in
     let new = ap (mapped (take (k + 1))) (c .with-field-numbers .ensures) ∙ set-in-more (c .loop-k .numbers) k (c .in-Continue-field .field .number) (c .loop-k .inv .0) short in
@@ -42,4 +42,4 @@ returns c =
     let is-min : n ≡ min (c .args .limits .count) 6 = omega (arith, c .min-count .ensures) in
     let same : ms ≡ listed (c .args .limits) = same-take (c .args .limits .most) (c .args .limits .count) n six is-min in
     let end = fields-end ms k (c .loop-k-test .left) (mapped (take k) (c .loop-k .numbers)) (c .loop-k .self .rest .now) in
-    rw (ap (λ xs. fields xs (c .args .self .now .rest .now)) (sym same) ∙ sym (c .loop-k .inv .1) ∙ end) (ap Some (sym (take-six (c .loop-k .numbers) (c .args .limits .count) k (c .loop-k .inv .0) (omega arith))), refl)
+    rw (ap (λ xs. fields xs (c .args .self .now .rest .now)) (sym same) ∙ sym (c .loop-k .inv .1) ∙ end) (ap Some (sym (take-six (c .loop-k .numbers) (c .args .limits .count) k (c .loop-k .inv .0) (omega arith))), refl, c .loop-k .inv .0)

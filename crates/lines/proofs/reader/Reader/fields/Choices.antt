@@ -2,7 +2,8 @@ use mathlib.Core.Path.{_≡_}
 use lib.ListN.{take, drop}
 use Rattle.std.specs.Options.{mapped}
 use Rattle.lines.specs.Fields.{fields}
-use Rattle.lines.proofs.Gathered.{prepend, Six}
+use Rattle.lines.specs.Reading.{Six}
+use Rattle.lines.proofs.Gathered.{prepend}
 use Rattle.lines.proofs.reader.Reader.fields.Given as given
 
 abbrev pub Inv-loop-k : given.InvT-loop-k
