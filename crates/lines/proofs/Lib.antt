@@ -3,3 +3,5 @@ pub mod Numbers
 pub mod Gathered
 pub mod Answered
 pub mod Spelled
+pub mod Familiar
+pub mod TraceCodec

@@ -1,3 +1,5 @@
 pub mod Fields
 pub mod Reading
 pub mod Spelling
+pub mod Families
+pub mod TraceLines
