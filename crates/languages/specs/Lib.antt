@@ -1,1 +1,4 @@
 pub mod Behaviours
+pub mod Modes
+pub mod RegisterLines
+pub mod StripLines

@@ -1,4 +1,7 @@
 // Thread languages: what a thread does next, and how it goes on.
 pub mod action;
+pub mod modes;
+pub mod read_registers;
+pub mod read_strips;
 pub mod registers;
 pub mod strips;

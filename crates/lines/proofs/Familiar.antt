@@ -33,9 +33,9 @@ Right letter-of (t ∷ ts) = (letter-of (t .1) ≡ t .0) × Right letter-of ts
 right-lookup : {K : Type 0} (letter-of : K → ℕ) (ts : List (ℕ × K)) (c : ℕ) (k : K) → Right letter-of ts → lookup ts c ≡ Some k → letter-of k ≡ c
 right-lookup letter-of [] c k right e = absurd (none-some e)
 right-lookup letter-of (t ∷ ts) c k right e = elim (cases-bool (eqb c (t .0))) [
-      | inl same ↦ ap letter-of (sym (some-same (rw same at e))) ∙ right .0 ∙ sym (eqb-true c (t .0) same)
-      | inr other ↦ right-lookup letter-of ts c k (right .1) (rw other at e)
-    ]
+  | inl same ↦ ap letter-of (sym (some-same (rw same at e))) ∙ right .0 ∙ sym (eqb-true c (t .0) same)
+  | inr other ↦ right-lookup letter-of ts c k (right .1) (rw other at e)
+]
 
 -- n numbers, from place k on
 abbrev pub gets : ℕ → ℕ → List ℕ → List ℕ

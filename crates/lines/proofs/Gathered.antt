@@ -75,9 +75,9 @@ set-in-six (Some vs) k (Some v) six = length-set vs k v ∙ six
 
 pub same-take : (vs : List ℕ) (n k : ℕ) → length vs ≡ 6 → k ≡ min n 6 → take k vs ≡ take n vs
 same-take vs n k six e = elim (cases-lt n 6) [
-      | inl l ↦ ap (λ i. take i vs) (e ∙ min-eq-left (omega arith))
-      | inr g ↦ ap (λ i. take i vs) (e ∙ min-eq-right g) ∙ take-all 6 vs (omega arith) ∙ sym (take-all n vs (omega arith))
-    ]
+  | inl l ↦ ap (λ i. take i vs) (e ∙ min-eq-left (omega arith))
+  | inr g ↦ ap (λ i. take i vs) (e ∙ min-eq-right g) ∙ take-all 6 vs (omega arith) ∙ sym (take-all n vs (omega arith))
+]
 
 -- of at most six numbers, the first so many are those that were read
 pub take-six : (vs : Option (List ℕ)) (n k : ℕ) → Six vs → k ≡ min n 6 → mapped (take k) vs ≡ mapped (take n) vs

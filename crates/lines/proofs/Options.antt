@@ -23,4 +23,3 @@ ok-same e = cc
 pub and-then-some : {A B : Type 0} (o : Option A) (k : A → Option B) (b : B) → and-then o k ≡ Some b → (a : A) × (o ≡ Some a) × (k a ≡ Some b)
 and-then-some None k b e = let z : _≡_ {A = ℕ} 0 1 = cc in absurd (omega arith)
 and-then-some (Some a) k b e = (a, refl, e)
-

@@ -49,21 +49,21 @@ digits-append (d ∷ ds) bs all stops = let p = and-parts (digit d) (all-digits 
 
 plain-from : (ds : List ℕ) → 0 < length ds → (getD ds 0 0 ≡ 48 → length ds ≡ 1) → plain ds ≡ true
 plain-from ds some lead = elim (cases-eq (length ds) 1) [
-      | inl one ↦ rw (eq-eqb (length ds) 1 one)
-      | inr more ↦ rw (ne-eqb (length ds) 1 more, lt-ltb 1 (length ds) (omega arith), ne-eqb (getD ds 0 0) 48 (λ e. more (lead e)))
-    ]
+  | inl one ↦ rw (eq-eqb (length ds) 1 one)
+  | inr more ↦ rw (ne-eqb (length ds) 1 more, lt-ltb 1 (length ds) (omega arith), ne-eqb (getD ds 0 0) 48 (λ e. more (lead e)))
+]
 
 plain-tells : (ds : List ℕ) → plain ds ≡ true → (0 < length ds) × (getD ds 0 0 ≡ 48 → length ds ≡ 1)
 plain-tells ds p = elim (cases-eq (length ds) 1) [
-      | inl one ↦ (omega arith, λ _. one)
-      | inr more ↦ let q = and-parts _ _ (rw (ne-eqb (length ds) 1 more) at p) in (omega (arith, ltb-true 1 (length ds) (q .0)), λ e. absurd (eqb-false (getD ds 0 0) 48 (not-true _ (q .1)) e))
-    ]
+  | inl one ↦ (omega arith, λ _. one)
+  | inr more ↦ let q = and-parts _ _ (rw (ne-eqb (length ds) 1 more) at p) in (omega (arith, ltb-true 1 (length ds) (q .0)), λ e. absurd (eqb-false (getD ds 0 0) 48 (not-true _ (q .1)) e))
+]
 
 plain-decimal : (v : ℕ) → v < 2 ^ 64 → plain (decimal v) ≡ true
 plain-decimal v small = plain-from (decimal v) (decimal-some v small) (λ e. elim (cases-eq v 0) [
-      | inl z ↦ ap length (decimal-digit v (omega arith))
-      | inr n ↦ absurd (omega (arith, first-decimal v (omega arith) small))
-    ])
+  | inl z ↦ ap length (decimal-digit v (omega arith))
+  | inr n ↦ absurd (omega (arith, first-decimal v (omega arith) small))
+])
 
 -- a number has one spelling
 
@@ -77,9 +77,9 @@ number-written most v bs h small stops =
 
 up-to-some : (most v w : ℕ) → up-to most v ≡ Some w → (v ≡ w) × (v ≤ most)
 up-to-some most v w e = elim (cases-bool (leb v most)) [
-      | inl t ↦ (some-same (rw t at e), leb-true v most t)
-      | inr f ↦ absurd (none-some (rw f at e))
-    ]
+  | inl t ↦ (some-same (rw t at e), leb-true v most t)
+  | inr f ↦ absurd (none-some (rw f at e))
+]
 
 number-parts : (most v : ℕ) (bs rest : List ℕ) → most < 2 ^ 64 → plain (digits bs) ≡ true → _≡_ {A = Option ℕ × List ℕ} (up-to most (value-after 0 (digits bs)), drop (length (digits bs)) bs) (Some v, rest) → (bs ≡ decimal v ++ rest) × (v ≤ most)
 number-parts most v bs rest small p e =
@@ -90,16 +90,16 @@ number-parts most v bs rest small p e =
 
 number-is-written : (most v : ℕ) (bs rest : List ℕ) → most < 2 ^ 64 → number most bs ≡ Some (Some v, rest) → (bs ≡ decimal v ++ rest) × (v ≤ most)
 number-is-written most v bs rest small e = elim (cases-bool (plain (digits bs))) [
-      | inl p ↦ number-parts most v bs rest small p (some-same (rw p at e))
-      | inr f ↦ absurd (none-some (rw f at e))
-    ]
+  | inl p ↦ number-parts most v bs rest small p (some-same (rw p at e))
+  | inr f ↦ absurd (none-some (rw f at e))
+]
 
 pub past-some : (c : ℕ) (bs rest : List ℕ) → past c bs ≡ Some rest → bs ≡ c ∷ rest
 past-some c [] rest e = let z : _≡_ {A = ℕ} 0 1 = cc in absurd (omega arith)
 past-some c (b ∷ bs) rest e = elim (cases-bool (eqb b c)) [
-      | inl t ↦ let same : bs ≡ rest = some-same (rw t at e) in ap (λ x. x ∷ bs) (eqb-true b c t) ∙ ap (λ xs. c ∷ xs) same
-      | inr f ↦ absurd (none-some (rw f at e))
-    ]
+  | inl t ↦ let same : bs ≡ rest = some-same (rw t at e) in ap (λ x. x ∷ bs) (eqb-true b c t) ∙ ap (λ xs. c ∷ xs) same
+  | inr f ↦ absurd (none-some (rw f at e))
+]
 
 -- fields have one spelling
 
@@ -137,9 +137,9 @@ fields-parts m ms bs us rest e =
 
 number-range : (most v : ℕ) (bs rest : List ℕ) → number most bs ≡ Some (Some v, rest) → v ≤ most
 number-range most v bs rest e = elim (cases-bool (plain (digits bs))) [
-      | inl p ↦ let u = up-to-some most (value-after 0 (digits bs)) v (ap (λ x. x .0) (some-same (rw p at e))) in omega (arith, u .0, u .1)
-      | inr f ↦ absurd (none-some (rw f at e))
-    ]
+  | inl p ↦ let u = up-to-some most (value-after 0 (digits bs)) v (ap (λ x. x .0) (some-same (rw p at e))) in omega (arith, u .0, u .1)
+  | inr f ↦ absurd (none-some (rw f at e))
+]
 
 pub fields-range : (ms bs vs rest : List ℕ) → fields ms bs ≡ Some (Some vs, rest) → InRange ms vs
 fields-range [] bs vs rest e =
@@ -215,7 +215,7 @@ range-length [] (u ∷ us) h = absurd h
 range-length (m ∷ ms) [] h = absurd h
 range-length (m ∷ ms) (u ∷ us) h = ap suc (range-length ms us (h .1))
 
-range-at : (ms us : List ℕ) → InRange ms us → (i : ℕ) → i < length ms → getD us i 0 ≤ getD ms i 0
+pub range-at : (ms us : List ℕ) → InRange ms us → (i : ℕ) → i < length ms → getD us i 0 ≤ getD ms i 0
 range-at [] us h i l = absurd (omega arith)
 range-at (m ∷ ms) [] h i l = absurd h
 range-at (m ∷ ms) (u ∷ us) h zero l = h .0
@@ -224,10 +224,10 @@ range-at (m ∷ ms) (u ∷ us) h (suc i) l = range-at ms us (h .1) i (omega arit
 pub within-taken : (n : ℕ) (ms us vs : List ℕ) → InRange ms us → us ≡ take n vs → Within 0 ms vs
 within-taken n ms us vs h e =
     within-from 0 ms vs (λ i l.
-      let long : length us ≡ min n (length vs) = ap length e ∙ length-take n vs in
-      let zero-add : 0 + i ≡ i = omega arith in
-      let same : getD us i 0 ≡ getD vs i 0 = ap (λ xs. getD xs i 0) e ∙ getD-take n vs i 0 (omega (arith, range-length ms us h, min-le-left n (length vs))) in
-      rw zero-add (omega (arith, same, range-at ms us h i l)))
+    let long : length us ≡ min n (length vs) = ap length e ∙ length-take n vs in
+    let zero-add : 0 + i ≡ i = omega arith in
+    let same : getD us i 0 ≡ getD vs i 0 = ap (λ xs. getD xs i 0) e ∙ getD-take n vs i 0 (omega (arith, range-length ms us h, min-le-left n (length vs))) in
+    rw zero-add (omega (arith, same, range-at ms us h i l)))
 
 pub line-from : (ms bs vs feed rest : List ℕ) → 0 < length bs → fields ms (drop 1 bs) ≡ Some (Some vs, feed) → past 10 feed ≡ Some rest → line ms bs ≡ Ok (vs, rest)
 line-from ms [] vs feed rest some e p = absurd (omega arith)

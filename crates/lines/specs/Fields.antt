@@ -90,4 +90,3 @@ letter (c ∷ bs) = Some c
 abbrev pub Within : ℕ → List ℕ → List ℕ → Type 0
 Within k [] vs = Unit {0}
 Within k (m ∷ ms) vs = (getD vs k 0 ≤ m) × Within (k + 1) ms vs
-

@@ -59,7 +59,11 @@ fn with_digit(number: Option<u32>, byte: u8, most: u32) -> Option<u32>
 {
     let before = number?;
     let after = 10 * before as u64 + (byte - b'0') as u64;
-    if after <= most as u64 { Some(after as u32) } else { None }
+    if after <= most as u64 {
+        Some(after as u32)
+    } else {
+        None
+    }
 }
 
 // The numbers with that of the field k.
@@ -151,7 +155,11 @@ impl<'a> Reader<'a> {
     pub fn letter(&self) -> Option<char>
         ensures { λ r. ⌜ r ≡ letter (now (now (self .entry) .rest)) ⌝ }
     {
-        if self.rest.is_empty() { None } else { Some(self.rest[0] as char) }
+        if self.rest.is_empty() {
+            None
+        } else {
+            Some(self.rest[0] as char)
+        }
     }
 
     // Reads a line with such fields, whatever its letter. A line that is refused is not passed.

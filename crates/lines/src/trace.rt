@@ -16,19 +16,36 @@ use crate::scope::Scope;
 #[derive(Clone, Copy)]
 pub enum Line {
     // T i: begins the turn of a thread
-    Turn { thread: u8 },
+    Turn {
+        thread: u8,
+    },
     // N: a silent step, a fence or a print
     Next,
     // R t: reads the message that ends at t
-    Read { end: End },
+    Read {
+        end: End,
+    },
     // W f t: writes a message with the span (f, t]
-    Write { from: End, to: End },
+    Write {
+        from: End,
+        to: End,
+    },
     // U f t: reads the message that ends at f, and writes one with the span (f, t]
-    Update { from: End, to: End },
+    Update {
+        from: End,
+        to: End,
+    },
     // G x v f t: promises a message
-    Promise { location: u8, value: u16, from: End, to: End },
+    Promise {
+        location: u8,
+        value: u16,
+        from: End,
+        to: End,
+    },
     // H t: keeps the promise that ends at t
-    Keep { end: End },
+    Keep {
+        end: End,
+    },
     // X: opens a showing
     Show,
     // E: ends the turn
@@ -83,7 +100,14 @@ fn limits(kind: Kind, scope: Scope) -> Limits
         },
         Kind::Promise => Limits {
             count: 4,
-            most: [(scope.locations() - 1) as u32, MOST_VALUE, MOST_END, MOST_END, 0, 0],
+            most: [
+                (scope.locations() - 1) as u32,
+                MOST_VALUE,
+                MOST_END,
+                MOST_END,
+                0,
+                0,
+            ],
         },
         Kind::Next | Kind::Show | Kind::EndTurn => Limits {
             count: 0,
@@ -97,9 +121,13 @@ fn line_of(kind: Kind, numbers: [u32; 6], scope: Scope) -> Line
     ensures { λ r. ⌜ r ≡ trace-make kind numbers ⌝ }
 {
     match kind {
-        Kind::Turn => Line::Turn { thread: numbers[0] as u8 },
+        Kind::Turn => Line::Turn {
+            thread: numbers[0] as u8,
+        },
         Kind::Next => Line::Next,
-        Kind::Read => Line::Read { end: numbers[0] as End },
+        Kind::Read => Line::Read {
+            end: numbers[0] as End,
+        },
         Kind::Write => Line::Write {
             from: numbers[0] as End,
             to: numbers[1] as End,
@@ -114,7 +142,9 @@ fn line_of(kind: Kind, numbers: [u32; 6], scope: Scope) -> Line
             from: numbers[2] as End,
             to: numbers[3] as End,
         },
-        Kind::Keep => Line::Keep { end: numbers[0] as End },
+        Kind::Keep => Line::Keep {
+            end: numbers[0] as End,
+        },
         Kind::Show => Line::Show,
         Kind::EndTurn => Line::EndTurn,
     }

@@ -1,0 +1,3 @@
+pub mod ModeNumbers
+pub mod RegisterCodec
+pub mod StripCodec
