@@ -1,3 +1,4 @@
 pub mod ModeNumbers
 pub mod RegisterCodec
 pub mod StripCodec
+pub mod ProgramSteps

@@ -3,7 +3,7 @@ use mathlib.Core.Path.{_≡_, refl, sym, ap, subst, _∙_}
 use mathlib.Core.List.{List, [], _∷_, _++_}
 use mathlib.Core.Bool.{true, false, cond}
 use mathlib.Core.Logic.{_⊎_, inl, inr}
-use Prim.Native.Nat.{ℕ, zero, suc, _+_, _≤_, min}
+use Prim.Native.Nat.{ℕ, zero, suc, _+_, _<_, _≤_, min}
 use native.Mathlib.Nat.{min-le-left}
 use native.Mathlib.Numerals.{add-one}
 use native.Mathlib.Omega.{arith}
@@ -13,7 +13,7 @@ use Rattle.std.specs.declared.option.Option.{Option}
 use Rattle.std.specs.declared.option.Option.the-variants.{Some, None}
 use Rattle.std.specs.declared.result.Result.{Result}
 use Rattle.std.specs.declared.result.Result.the-variants.{Ok, Err}
-use Rattle.std.proofs.shelf.Lists.{length-take}
+use Rattle.std.proofs.shelf.Lists.{length-take, length-append}
 use Rattle.std.proofs.shelf.Tests.{cases-bool, eqb-true}
 use Rattle.lines.specs.declared.reader.LineFault.{LineFault}
 use Rattle.lines.specs.declared.reader.LineFault.the-variants.{Form, Range}
@@ -141,3 +141,10 @@ module _ {K A : Type 0} (F : Family K A) {Fits : A → Type 0} (codec : Codec F 
         let l : line (F .limits k) bs ≡ Ok (take (limits .count) vs, after) = ap (λ ms. line ms bs) (sym same) ∙ line-of-ok (limits .count) (line (listed limits) bs) vs bs e ∙ ap (λ r. Ok (take (limits .count) vs, r)) (sym left) in
         let is : reads F bs ≡ Ok (a, after) = ap (by-kind F bs) chosen ∙ ap (made F k) l ∙ ap (λ o. in-range o after) (codec .enough k (limits .count) vs (listed-count limits (F .limits k) same) ∙ m) in
         (sym (ap read is), sym (ap (λ o. unread o bs) is))
+
+  -- a line that is read has a letter at least
+  pub reads-shorter : (bs : List ℕ) (a : A) (rest : List ℕ) → reads F bs ≡ Ok (a, rest) → length rest < length bs
+  reads-shorter bs a rest e =
+      let s = is-spelled bs a rest e in
+      let l = ap length (s .0) ∙ length-append (spells F a) rest in
+      omega (arith, l)

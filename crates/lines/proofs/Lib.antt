@@ -5,3 +5,4 @@ pub mod Answered
 pub mod Spelled
 pub mod Familiar
 pub mod TraceCodec
+pub mod Walked

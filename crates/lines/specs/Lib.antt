@@ -3,3 +3,4 @@ pub mod Reading
 pub mod Spelling
 pub mod Families
 pub mod TraceLines
+pub mod Walks

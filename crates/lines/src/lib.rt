@@ -1,5 +1,6 @@
 // The lines of a job file: how one is read, and the lines of a trace.
 pub mod reader;
+pub mod refusal;
 pub mod scope;
 pub mod trace;
 
