@@ -34,7 +34,7 @@ pub struct Limits {
     pub most: [u32; 6],
 }
 
-#[derive(Drop)]
+#[derive(Clone, Copy)]
 pub struct Reader<'a> {
     rest: &'a [u8],
 }
@@ -171,7 +171,7 @@ impl<'a> Reader<'a> {
         if self.rest.is_empty() {
             return Err(LineFault::Form);
         }
-        let mut line = Reader { rest: self.rest };
+        let mut line = *self;
         line.skip(1);
         let Some(fields) = line.fields(limits) else {
             return Err(LineFault::Form);
