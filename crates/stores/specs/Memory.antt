@@ -1,11 +1,21 @@
 -- Messages in order of arrival, and what can be asked of them.
-use mathlib.Core.List.{List, [], _∷_}
+use mathlib.Core.List.{List, [], _∷_, _++_}
 use mathlib.Core.Bool.{Bool, true, false, cond, not, _&&_}
 use Prim.Native.Nat.{ℕ, _+_, max}
 use lib.Dec.{eqb, ltb}
+use lib.ListN.{length, getD}
 use Rattle.std.specs.declared.option.Option.{Option}
 use Rattle.std.specs.declared.option.Option.the-variants.{Some, None}
+use Rattle.std.specs.declared.result.Result.{Result}
+use Rattle.std.specs.declared.result.Result.the-variants.{Ok, Err}
 use Rattle.stores.specs.declared.message.Message.{Message}
+use Rattle.stores.specs.declared.kept.Kept.{Kept}
+use Rattle.stores.specs.declared.kept.StoreFault.{StoreFault}
+use Rattle.stores.specs.declared.kept.StoreFault.the-variants.{Full}
+use Rattle.stores.specs.Views.{zero-view}
+
+abbrev pub zero-message : Message
+zero-message = record { location = 0; from = 0; to = 0; value = 0; view = zero-view }
 
 -- the message is at x and ends at t
 abbrev pub ends-at : ℕ → ℕ → Message → Bool
@@ -32,3 +42,14 @@ is-free x f t (m ∷ ms) = not (overlaps x f t m) && is-free x f t ms
 abbrev pub greatest-end : ℕ → List Message → ℕ
 greatest-end x [] = 0
 greatest-end x (m ∷ ms) = max (cond (eqb (m .location) x) (m .to) 0) (greatest-end x ms)
+
+-- the k-th message from 0, or the flag that says that there is none
+abbrev pub nth : ℕ → List Message → Kept
+nth k ms = cond (ltb k (length ms)) (record { there = true; message = getD ms k zero-message }) (record { there = false; message = zero-message })
+
+-- one message more at the end, if the list has not reached the capacity
+abbrev pub added : ℕ → Message → List Message → List Message
+added capacity m ms = cond (ltb (length ms) capacity) (ms ++ m ∷ []) ms
+
+abbrev pub add-answer : ℕ → List Message → Result Unit StoreFault
+add-answer capacity ms = cond (ltb (length ms) capacity) (Ok tt) (Err Full)
