@@ -1,1 +1,2 @@
 pub mod ViewLaws
+pub mod StoreLaws
