@@ -78,12 +78,12 @@ find-from-some k x t [] d j e = absurd (none-some j e)
 find-from-some k x t (m ∷ ms) d j e =
     elim (cases-bool (ends-at x t m)) [
       | inl b ↦
-        let s : Some k ≡ Some j = sym (cond-true _ (Some k) (find-from (k + 1) x t ms) b) ∙ e in
-        let same : k ≡ j = cc in
-        (0, omega arith, omega arith, ends-at-sound x t m b, λ h l. absurd (omega arith))
+          let s : Some k ≡ Some j = sym (cond-true _ (Some k) (find-from (k + 1) x t ms) b) ∙ e in
+          let same : k ≡ j = cc in
+          (0, omega arith, omega arith, ends-at-sound x t m b, λ h l. absurd (omega arith))
       | inr b ↦
-        let r = find-from-some (k + 1) x t ms d j (sym (cond-false _ (Some k) (find-from (k + 1) x t ms) b) ∙ e) in
-        (suc (r .0), omega arith, omega arith, r .3, earlier b (r .0) (r .4))
+          let r = find-from-some (k + 1) x t ms d j (sym (cond-false _ (Some k) (find-from (k + 1) x t ms) b) ∙ e) in
+          (suc (r .0), omega arith, omega arith, r .3, earlier b (r .0) (r .4))
     ]
   where
     earlier : ends-at x t m ≡ false → (i : ℕ) → ((h : ℕ) → h < i → Ends-at x t (getD ms h d) → ⊥)
@@ -125,16 +125,16 @@ One-end x ms e = (e ≡ 0) ⊎ ((m : Message) × In m ms × (m .location ≡ x) 
 pub greatest-end-one : (x : ℕ) (ms : List Message) → One-end x ms (greatest-end x ms)
 greatest-end-one x [] = inl refl
 greatest-end-one x (n ∷ ns) = elim (cases-eq (n .location) x) [
-      | inl l ↦
-        let c : cond (eqb (n .location) x) (n .to) 0 ≡ n .to = cond-true _ (n .to) 0 (eq-eqb (n .location) x l) in
-        elim (cases-lt (greatest-end x ns) (n .to)) [
-          | inl h ↦ inr (n, inl refl, l, omega arith)
-          | inr h ↦ later (omega arith) (greatest-end-one x ns)
-        ]
-      | inr l ↦
-        let c : cond (eqb (n .location) x) (n .to) 0 ≡ 0 = cond-false _ (n .to) 0 (ne-eqb (n .location) x l) in
-        later (omega arith) (greatest-end-one x ns)
-    ]
+  | inl l ↦
+      let c : cond (eqb (n .location) x) (n .to) 0 ≡ n .to = cond-true _ (n .to) 0 (eq-eqb (n .location) x l) in
+      elim (cases-lt (greatest-end x ns) (n .to)) [
+        | inl h ↦ inr (n, inl refl, l, omega arith)
+        | inr h ↦ later (omega arith) (greatest-end-one x ns)
+      ]
+  | inr l ↦
+      let c : cond (eqb (n .location) x) (n .to) 0 ≡ 0 = cond-false _ (n .to) 0 (ne-eqb (n .location) x l) in
+      later (omega arith) (greatest-end-one x ns)
+]
   where
     later : greatest-end x (n ∷ ns) ≡ greatest-end x ns → One-end x ns (greatest-end x ns) → One-end x (n ∷ ns) (greatest-end x (n ∷ ns))
     later e (inl z) = inl (e ∙ z)

@@ -3,6 +3,7 @@ ghost use mathlib.Core.Path.{_≡_};
 ghost use mathlib.Core.List.{[]};
 ghost use Prim.Native.Nat.{_≤_};
 ghost use lib.ListN.{length, take};
+ghost use Rattle.stores.specs.Memory.{overlap-from};
 use crate::kept::Kept;
 use crate::kept::StoreFault;
 use crate::message::Message;
@@ -11,9 +12,9 @@ use lines::End;
 
 const CAPACITY: usize = 64;
 
-#[derive(Clone, Copy)]
+#[derive(Drop)]
 pub struct Flat {
-    items: [Message; 64],
+    items: [Message; CAPACITY],
     len: usize,
     ghost fits: { len ≤ 64 },
     ghost whole: { length items ≡ 64 },
@@ -24,9 +25,21 @@ impl Flat {
         ensures { λ r. ⌜ take (r .len) (r .items) ≡ [] ⌝ }
     {
         Flat {
-            items: [Message::zero(); 64],
+            items: [Message::zero(); CAPACITY],
             len: 0,
         }
+    }
+
+    // the arrival number of the first message of the location that overlaps (from, to]
+    fn first_overlap(&self, location: u8, from: End, to: End) -> Option<usize>
+        ensures { λ r. ⌜ r ≡ overlap-from 0 location from to (take (now (self .entry) .len) (now (self .entry) .items)) ⌝ }
+    {
+        for (k, m) in self.items[0..self.len].iter().enumerate() {
+            if m.overlaps(location, from, to) {
+                return Some(k);
+            }
+        }
+        None
     }
 }
 
@@ -54,12 +67,7 @@ pub impl Store for Flat as FlatStore {
     }
 
     fn is_free(&self, location: u8, from: End, to: End) -> bool {
-        for m in &self.items[0..self.len] {
-            if m.overlaps(location, from, to) {
-                return false;
-            }
-        }
-        true
+        self.first_overlap(location, from, to).is_none()
     }
 
     fn greatest_end(&self, location: u8) -> End {
@@ -75,9 +83,15 @@ pub impl Store for Flat as FlatStore {
     fn nth(&self, k: usize) -> Kept {
         if k < self.len {
             let message = self.items[k];
-            Kept { there: true, message }
+            Kept {
+                there: true,
+                message,
+            }
         } else {
-            Kept { there: false, message: Message::zero() }
+            Kept {
+                there: false,
+                message: Message::zero(),
+            }
         }
     }
 

@@ -3,4 +3,6 @@ pub mod flat;
 pub mod kept;
 pub mod message;
 pub mod store;
+#[cfg(test)]
+mod tests;
 pub mod view;
