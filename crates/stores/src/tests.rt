@@ -17,7 +17,7 @@ use std::test::*;
 #[derive(Drop)]
 struct Small {
     inner: Flat,
-    ghost few: { inner .len ≤ 3 },
+    ghost few: { length (take (inner .len) (inner .items)) ≤ 3 },
 }
 
 impl Store for Small as SmallStore {
