@@ -1,5 +1,4 @@
 // Every question, asked of the flat store and of a store with room for three.
-ghost use mathlib.Core.Path.{_≡_};
 ghost use Prim.Native.Nat.{_≤_};
 ghost use lib.ListN.{length, take};
 use crate::flat::Flat;
