@@ -1,2 +1,4 @@
 pub mod Views
+pub mod ViewLaws
 pub mod Memory
+pub mod StoreLaws

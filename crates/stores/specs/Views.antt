@@ -1,6 +1,8 @@
 -- Views: one end for each of eight locations.
 use mathlib.Core.List.{List, [], _∷_}
+use mathlib.Core.Bool.{Bool, true, _&&_}
 use Prim.Native.Nat.{ℕ, max, _≤_}
+use lib.Dec.{leb}
 use lib.ListN.{getD, set, replicate}
 use Rattle.stores.specs.declared.view.View.{View}
 
@@ -23,6 +25,15 @@ greater-ends (a ∷ as′) (b ∷ bs) = max a b ∷ greater-ends as′ bs
 -- the greater end at each location
 abbrev pub join : View → View → View
 join a b = record { ends = greater-ends (a .ends) (b .ends) }
+
+-- each end of the first is at most the one in its place in the second, 0 past the second's last
+abbrev pub ends-at-most : List ℕ → List ℕ → Bool
+ends-at-most [] bs = true
+ends-at-most (a ∷ as′) [] = leb a 0 && ends-at-most as′ []
+ends-at-most (a ∷ as′) (b ∷ bs) = leb a b && ends-at-most as′ bs
+
+abbrev pub at-most : View → View → Bool
+at-most a b = ends-at-most (a .ends) (b .ends)
 
 -- a is at most b at each location
 abbrev pub Below : View → View → Type 0
