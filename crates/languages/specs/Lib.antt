@@ -1,1 +1,5 @@
 pub mod Behaviours
+pub mod Meanings
+pub mod Strips
+pub mod Registers
+pub mod Located
