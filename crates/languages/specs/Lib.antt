@@ -3,3 +3,4 @@ pub mod Meanings
 pub mod Strips
 pub mod Registers
 pub mod Located
+pub mod Endings

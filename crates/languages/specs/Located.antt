@@ -7,7 +7,7 @@ use borrow.Author.Tests.{ltb-true}
 use Rattle.std.specs.Finite.{nth}
 use Rattle.std.specs.declared.option.Option.{Option}
 use Rattle.std.specs.declared.option.Option.the-variants.{Some, None}
-use Rattle.languages.specs.Meanings.{Meaning, behaviour, if-in-range, at-line, Located}
+use Rattle.languages.specs.Meanings.{Meaning, behaviour, if-in-range, means-at, Located}
 use Rattle.languages.specs.Strips as strips
 use Rattle.languages.specs.Registers as registers
 use Rattle.languages.specs.declared.strips.StripLine.{StripLine}
@@ -23,11 +23,11 @@ behaviour-located means each s [] = each s
 behaviour-located means each s (v ∷ vs) = behaviour-located means each (means s .goes-on v) vs
 
 module _ {State Line : Type 0} (in-range : Line → Bool) (line-means : State → Line → Meaning State) (each : (s : State) (l : Line) → in-range l ≡ true → Located (line-means s l .next)) where
-  tested : (s : State) (l : Line) (b : Bool) → in-range l ≡ b → Located (at-line line-means s (cond b (Some l) None) .next)
+  tested : (s : State) (l : Line) (b : Bool) → in-range l ≡ b → Located (means-at line-means s (cond b (Some l) None) .next)
   tested s l true e = each s l e
   tested s l false e = tt
 
-  pub line-located : (s : State) (o : Option Line) → Located (at-line line-means s (if-in-range in-range o) .next)
+  pub line-located : (s : State) (o : Option Line) → Located (means-at line-means s (if-in-range in-range o) .next)
   line-located s None = tt
   line-located s (Some l) = tested s l (in-range l) refl
 

@@ -44,9 +44,9 @@ abbrev pub line-at : {Line : Type 0} → (Line → Bool) → List Line → ℕ �
 line-at in-range program n = if-in-range in-range (nth program n)
 
 -- what a state means at a line; with no line it has ended
-abbrev pub at-line : {State Line : Type 0} → (State → Line → Meaning State) → State → Option Line → Meaning State
-at-line line-means s None = ended s
-at-line line-means s (Some l) = line-means s l
+abbrev pub means-at : {State Line : Type 0} → (State → Line → Meaning State) → State → Option Line → Meaning State
+means-at line-means s None = ended s
+means-at line-means s (Some l) = line-means s l
 
 -- an action's location, if it has one, is below 8
 abbrev pub Located : Action → Type 0

@@ -6,7 +6,7 @@ use lib.Dec.{eqb, ltb}
 use lib.ListN.{getD, set, replicate}
 use denote.Ref.{now}
 use Rattle.languages.specs.Behaviours.{Behaviour}
-use Rattle.languages.specs.Meanings.{Meaning, behaviour, acting, reading, line-at, at-line}
+use Rattle.languages.specs.Meanings.{Meaning, behaviour, acting, reading, line-at, means-at}
 use Rattle.languages.specs.declared.action.Action.the-variants as action
 use Rattle.languages.specs.declared.action.Taking.the-variants.{OnlyRead, Replaced}
 use Rattle.languages.specs.declared.registers.RegisterLine.{RegisterLine}
@@ -62,7 +62,7 @@ in-range (Fence k) = true
 in-range (Print s) = true
 
 abbrev pub register-means : RegisterState → Meaning RegisterState
-register-means t = at-line line-means t (line-at in-range (t .program) (t .line))
+register-means t = means-at line-means t (line-at in-range (t .program) (t .line))
 
 abbrev pub register-state : RegisterThread → RegisterState
 register-state t = record { program = now (t .program); line = t .line; registers = t .registers }

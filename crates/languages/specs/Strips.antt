@@ -5,7 +5,7 @@ use Prim.Native.Nat.{ℕ, _+_, _%_}
 use lib.Dec.{eqb, ltb}
 use denote.Ref.{now}
 use Rattle.languages.specs.Behaviours.{Behaviour}
-use Rattle.languages.specs.Meanings.{Meaning, behaviour, acting, reading, line-at, at-line}
+use Rattle.languages.specs.Meanings.{Meaning, behaviour, acting, reading, line-at, means-at}
 use Rattle.languages.specs.declared.action.Action.the-variants as action
 use Rattle.languages.specs.declared.action.Taking.the-variants.{NotTaken, OnlyRead, Replaced}
 use Rattle.languages.specs.declared.strips.StripLine.{StripLine}
@@ -38,7 +38,7 @@ in-range (Fence k) = true
 in-range (Print v) = true
 
 abbrev pub strip-means : StripState → Meaning StripState
-strip-means t = at-line line-means t (line-at in-range (t .program) (t .line))
+strip-means t = means-at line-means t (line-at in-range (t .program) (t .line))
 
 abbrev pub strip-behaviour : StripThread → Behaviour
 strip-behaviour t = behaviour strip-means (record { program = now (t .program); line = t .line })

@@ -3,5 +3,6 @@ pub mod action;
 pub mod language;
 pub mod register_thread;
 pub mod registers;
+pub mod replay;
 pub mod strip_thread;
 pub mod strips;

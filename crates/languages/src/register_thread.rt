@@ -3,6 +3,7 @@ ghost use mathlib.Core.Path.{_≡_};
 ghost use Prim.Native.Nat.{_<_};
 ghost use lib.ListN.{length, getD, set};
 ghost use Rattle.std.specs.Options.{Cases as BySome};
+ghost use Rattle.languages.specs.Endings.{Stays-ended};
 ghost use Rattle.languages.specs.Meanings.{line-at};
 ghost use Rattle.languages.specs.Registers.{register-behaviour, register-start, in-range};
 ghost use Rattle.languages.specs.Located.{register-located};
@@ -21,7 +22,8 @@ pub struct RegisterThread<'a> {
 
 impl<'a> RegisterThread<'a> {
     pub fn new(program: &'a [RegisterLine]) -> Self
-        ensures { λ r. ⌜ register-behaviour r ≡ register-start (now (program .entry)) ⌝ }
+        ensures start { λ r. ⌜ register-behaviour r ≡ register-start (now (program .entry)) ⌝ }
+        ensures ended { λ r. ⌜ Stays-ended (register-behaviour r) ⌝ }
     {
         RegisterThread {
             program,

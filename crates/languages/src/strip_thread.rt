@@ -3,6 +3,7 @@ ghost use mathlib.Core.Path.{_≡_};
 ghost use Prim.Native.Nat.{_<_};
 ghost use lib.ListN.{length};
 ghost use Rattle.std.specs.Options.{Cases as BySome};
+ghost use Rattle.languages.specs.Endings.{Stays-ended, Ends-within};
 ghost use Rattle.languages.specs.Meanings.{line-at};
 ghost use Rattle.languages.specs.Strips.{strip-behaviour, strip-start, in-range};
 ghost use Rattle.languages.specs.Located.{strip-located};
@@ -20,7 +21,9 @@ pub struct StripThread<'a> {
 
 impl<'a> StripThread<'a> {
     pub fn new(program: &'a [StripLine]) -> Self
-        ensures { λ r. ⌜ strip-behaviour r ≡ strip-start (now (program .entry)) ⌝ }
+        ensures start { λ r. ⌜ strip-behaviour r ≡ strip-start (now (program .entry)) ⌝ }
+        ensures ended { λ r. ⌜ Stays-ended (strip-behaviour r) ⌝ }
+        ensures straight { λ r. ⌜ Ends-within (length (now (program .entry))) (strip-behaviour r) ⌝ }
     {
         StripThread { program, line: 0 }
     }
