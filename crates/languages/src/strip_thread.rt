@@ -113,3 +113,84 @@ pub impl<'a> Language for StripThread<'a> as StripLanguage {
         *self
     }
 }
+
+#[cfg(test)]
+mod tests {
+    use super::*;
+    use crate::action::FenceKind;
+    use crate::action::ReadMode;
+    use crate::action::WriteMode;
+    use std::test::*;
+
+    const PROGRAM: [StripLine; 6] = [
+        StripLine::Read {
+            location: 0,
+            value: 3,
+            mode: ReadMode::Relaxed,
+        },
+        StripLine::Store {
+            location: 7,
+            value: 9,
+            mode: WriteMode::Relaxed,
+        },
+        StripLine::FetchAdd {
+            location: 1,
+            value: 2,
+            read: ReadMode::Acquire,
+            write: WriteMode::Release,
+        },
+        StripLine::Fence {
+            kind: FenceKind::Sequential,
+        },
+        StripLine::Print { value: 8 },
+        StripLine::Store {
+            location: 8,
+            value: 1,
+            mode: WriteMode::Relaxed,
+        },
+    ];
+
+    #[test]
+    fn lines_run_straight_through() -> Result<(), Fail> {
+        let mut thread = StripThread::new(&PROGRAM);
+        check(matches!(
+            thread.next(),
+            Action::Read {
+                location: 0,
+                mode: ReadMode::Relaxed
+            }
+        ))?;
+        check(matches!(thread.takes(3), Taking::OnlyRead))?;
+        check(matches!(thread.takes(4), Taking::NotTaken))?;
+        thread.go_on(3);
+        check(matches!(
+            thread.next(),
+            Action::Write {
+                location: 7,
+                value: 9,
+                mode: WriteMode::Relaxed
+            }
+        ))?;
+        thread.go_on(0);
+        check(matches!(
+            thread.next(),
+            Action::Update {
+                location: 1,
+                read: ReadMode::Acquire,
+                write: WriteMode::Release
+            }
+        ))?;
+        check(matches!(thread.takes(65535), Taking::Replaced { value: 1 }))?;
+        thread.go_on(65535);
+        check(matches!(
+            thread.next(),
+            Action::Fence {
+                kind: FenceKind::Sequential
+            }
+        ))?;
+        thread.go_on(0);
+        check(matches!(thread.next(), Action::Print { value: 8 }))?;
+        thread.go_on(0);
+        check(matches!(thread.next(), Action::Ended))
+    }
+}
