@@ -275,65 +275,29 @@ mod tests {
     ];
 
     #[test]
-    fn silent_lines_reach_the_accesses() -> Result<(), Fail> {
-        let mut thread = RegisterThread::new(&PROGRAM);
-        for _ in 0..4 {
-            check(matches!(thread.next(), Action::Silent))?;
-            thread.go_on(0);
-        }
+    fn registers_hold_what_the_lines_put_there() -> Result<(), Fail> {
+        let start = RegisterThread::new(&PROGRAM);
+        check(matches!(start.next(), Action::Silent))?;
+        let loaded = replay(&start, &[0, 0, 0, 0, 7]);
         check(matches!(
-            thread.next(),
-            Action::Read {
-                location: 0,
-                mode: ReadMode::Acquire
-            }
-        ))?;
-        check(matches!(thread.takes(7), Taking::OnlyRead))?;
-        thread.go_on(7);
-        check(matches!(
-            thread.next(),
+            loaded.next(),
             Action::Write {
                 location: 1,
                 value: 10,
                 mode: WriteMode::Release
             }
         ))?;
-        check(matches!(thread.takes(7), Taking::NotTaken))
+        let last = replay(&loaded, &[0, 0, 0, 0]);
+        check(matches!(last.next(), Action::Print { value: 7 }))?;
+        check(matches!(replay(&last, &[0]).next(), Action::Ended))
     }
 
     #[test]
     fn updates_replace_what_they_say() -> Result<(), Fail> {
-        let mut thread = replay(&RegisterThread::new(&PROGRAM), &[0, 0, 0, 0, 7, 0]);
-        check(matches!(
-            thread.next(),
-            Action::Update {
-                location: 2,
-                read: ReadMode::Relaxed,
-                write: WriteMode::Release
-            }
-        ))?;
-        check(matches!(thread.takes(65530), Taking::Replaced { value: 4 }))?;
-        thread.go_on(65530);
-        check(matches!(
-            thread.next(),
-            Action::Update {
-                location: 3,
-                read: ReadMode::Acquire,
-                write: WriteMode::Relaxed
-            }
-        ))?;
-        check(matches!(thread.takes(5), Taking::Replaced { value: 10 }))?;
-        check(matches!(thread.takes(6), Taking::OnlyRead))?;
-        thread.go_on(6);
-        check(matches!(
-            thread.next(),
-            Action::Fence {
-                kind: FenceKind::Both
-            }
-        ))?;
-        thread.go_on(0);
-        check(matches!(thread.next(), Action::Print { value: 7 }))?;
-        thread.go_on(0);
-        check(matches!(thread.next(), Action::Ended))
+        let adding = replay(&RegisterThread::new(&PROGRAM), &[0, 0, 0, 0, 7, 0]);
+        check(matches!(adding.takes(65530), Taking::Replaced { value: 4 }))?;
+        let exchanging = replay(&adding, &[65530]);
+        check(matches!(exchanging.takes(5), Taking::Replaced { value: 10 }))?;
+        check(matches!(exchanging.takes(6), Taking::OnlyRead))
     }
 }

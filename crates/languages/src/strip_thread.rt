@@ -120,6 +120,7 @@ mod tests {
     use crate::action::FenceKind;
     use crate::action::ReadMode;
     use crate::action::WriteMode;
+    use crate::replay::replay;
     use std::test::*;
 
     const PROGRAM: [StripLine; 6] = [
@@ -152,45 +153,13 @@ mod tests {
 
     #[test]
     fn lines_run_straight_through() -> Result<(), Fail> {
-        let mut thread = StripThread::new(&PROGRAM);
-        check(matches!(
-            thread.next(),
-            Action::Read {
-                location: 0,
-                mode: ReadMode::Relaxed
-            }
-        ))?;
-        check(matches!(thread.takes(3), Taking::OnlyRead))?;
-        check(matches!(thread.takes(4), Taking::NotTaken))?;
-        thread.go_on(3);
-        check(matches!(
-            thread.next(),
-            Action::Write {
-                location: 7,
-                value: 9,
-                mode: WriteMode::Relaxed
-            }
-        ))?;
-        thread.go_on(0);
-        check(matches!(
-            thread.next(),
-            Action::Update {
-                location: 1,
-                read: ReadMode::Acquire,
-                write: WriteMode::Release
-            }
-        ))?;
-        check(matches!(thread.takes(65535), Taking::Replaced { value: 1 }))?;
-        thread.go_on(65535);
-        check(matches!(
-            thread.next(),
-            Action::Fence {
-                kind: FenceKind::Sequential
-            }
-        ))?;
-        thread.go_on(0);
-        check(matches!(thread.next(), Action::Print { value: 8 }))?;
-        thread.go_on(0);
-        check(matches!(thread.next(), Action::Ended))
+        let start = StripThread::new(&PROGRAM);
+        check(matches!(start.takes(3), Taking::OnlyRead))?;
+        check(matches!(start.takes(4), Taking::NotTaken))?;
+        let adding = replay(&start, &[3, 0]);
+        check(matches!(adding.takes(65535), Taking::Replaced { value: 1 }))?;
+        let last = replay(&adding, &[65535, 0]);
+        check(matches!(last.next(), Action::Print { value: 8 }))?;
+        check(matches!(replay(&last, &[0]).next(), Action::Ended))
     }
 }
