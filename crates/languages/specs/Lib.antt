@@ -3,3 +3,8 @@ pub mod Modes
 pub mod RegisterLines
 pub mod StripLines
 pub mod Programs
+pub mod Meanings
+pub mod Strips
+pub mod Registers
+pub mod Located
+pub mod Endings
