@@ -130,16 +130,24 @@ module _ {K A : Type 0} (F : Family K A) {Fits : A → Type 0} (codec : Codec F 
 
   module _ (bs : List ℕ) (k : K) (limits : Limits) (chosen : and-then (letter bs) (lookup (F .letters)) ≡ Some k) (same : listed limits ≡ F .limits k) (after : List ℕ) (left : after ≡ unread (line (listed limits) bs) bs) where
     -- what the reader of a family answers and leaves, by what the reader of its line did
-    pub refuses : (f : LineFault) → Err f ≡ read (line (listed limits) bs) → (Err f ≡ read (reads F bs)) × (after ≡ unread (reads F bs) bs)
+    pub refuses : (f : LineFault) → Err f ≡ read (line (listed limits) bs) → (Err f ≡ read (reads F bs)) × (after ≡ unread (reads F bs) bs) × (bs ≡ unread (reads F bs) bs)
     refuses f e =
         let l : line (F .limits k) bs ≡ Err f = ap (λ ms. line ms bs) (sym same) ∙ line-of-err (line (listed limits) bs) f e in
         let is : reads F bs ≡ Err f = ap (by-kind F bs) chosen ∙ ap (made F k) l in
-        (sym (ap read is), left ∙ ap (λ o. unread o bs) (ap (λ ms. line ms bs) same ∙ l) ∙ sym (ap (λ o. unread o bs) is))
+        let kept : bs ≡ unread (reads F bs) bs = sym (ap (λ o. unread o bs) is) in
+        (sym (ap read is), left ∙ ap (λ o. unread o bs) (ap (λ ms. line ms bs) same ∙ l) ∙ kept, kept)
 
     pub answers : (vs : List ℕ) (a : A) → Ok (take (limits .count) vs) ≡ read (line (listed limits) bs) → F .make k vs ≡ Some a → (Ok a ≡ read (reads F bs)) × (after ≡ unread (reads F bs) bs)
     answers vs a e m =
         let l : line (F .limits k) bs ≡ Ok (take (limits .count) vs, after) = ap (λ ms. line ms bs) (sym same) ∙ line-of-ok (limits .count) (line (listed limits) bs) vs bs e ∙ ap (λ r. Ok (take (limits .count) vs, r)) (sym left) in
         let is : reads F bs ≡ Ok (a, after) = ap (by-kind F bs) chosen ∙ ap (made F k) l ∙ ap (λ o. in-range o after) (codec .enough k (limits .count) vs (listed-count limits (F .limits k) same) ∙ m) in
+        (sym (ap read is), sym (ap (λ o. unread o bs) is))
+
+    -- a line whose numbers make none is out of range, and is not passed
+    pub rejects : (vs : List ℕ) → Ok (take (limits .count) vs) ≡ read (line (listed limits) bs) → F .make k vs ≡ None → (Err Range ≡ read (reads F bs)) × (bs ≡ unread (reads F bs) bs)
+    rejects vs e m =
+        let l : line (F .limits k) bs ≡ Ok (take (limits .count) vs, after) = ap (λ ms. line ms bs) (sym same) ∙ line-of-ok (limits .count) (line (listed limits) bs) vs bs e ∙ ap (λ r. Ok (take (limits .count) vs, r)) (sym left) in
+        let is : reads F bs ≡ Err Range = ap (by-kind F bs) chosen ∙ ap (made F k) l ∙ ap (λ o. in-range o after) (codec .enough k (limits .count) vs (listed-count limits (F .limits k) same) ∙ m) in
         (sym (ap read is), sym (ap (λ o. unread o bs) is))
 
   -- a line that is read has a letter at least

@@ -4,3 +4,4 @@ pub mod Spelling
 pub mod Families
 pub mod TraceLines
 pub mod Walks
+pub mod Scopes

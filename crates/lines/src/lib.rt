@@ -11,6 +11,9 @@ pub const MOST_END: u32 = 65535;
 
 pub const MOST_VALUE: u32 = 65535;
 
+// The largest offset and length in the head.
+pub const MOST_FIELD: u32 = 65535;
+
 // The most threads and locations that a job can have.
 pub const MOST_THREADS: u8 = 4;
 

@@ -1,8 +1,7 @@
 // How many threads and locations a job has: 1 to 4, and 1 to 8.
 ghost use mathlib.Core.Path.{_≡_};
-ghost use mathlib.Core.Bool.{_&&_};
 ghost use Prim.Native.Nat.{ℕ, _≤_};
-ghost use lib.Dec.{leb};
+ghost use Rattle.lines.specs.Scopes.{in-scope};
 ghost use Rattle.std.specs.Options.{isSome, Cases as BySome};
 
 #[derive(Clone, Copy)]
@@ -15,7 +14,7 @@ pub struct Scope {
 
 impl Scope {
     pub fn new(threads: u8, locations: u8) -> Option<Scope>
-        ensures test { λ r. ⌜ isSome r ≡ ((leb 1 threads && leb threads 4) && (leb 1 locations && leb locations 8)) ⌝ }
+        ensures test { λ r. ⌜ isSome r ≡ in-scope threads locations ⌝ }
         ensures made { λ r. ⌜ BySome r (Unit {0}) (λ s. (s .threads ≡ threads) × (s .locations ≡ locations)) ⌝ }
     {
         if threads >= 1 && threads <= 4 && locations >= 1 && locations <= 8 {

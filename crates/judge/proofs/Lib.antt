@@ -1,0 +1,2 @@
+pub mod JobCodec
+pub mod SectionCodec
