@@ -1,2 +1,3 @@
 pub mod JobCodec
 pub mod SectionCodec
+pub mod HeadSteps

@@ -1,2 +1,5 @@
 pub mod Jobs
 pub mod Sections
+pub mod Faults
+pub mod Heads
+pub mod Headings

@@ -1,3 +1,5 @@
 // Judges a job file, and writes the report.
+pub mod fault;
+pub mod head;
 pub mod job;
 pub mod section;

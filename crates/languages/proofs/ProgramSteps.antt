@@ -32,15 +32,6 @@ module _ {I : Type 0} (reads : List ℕ → Result (I × List ℕ) LineFault) wh
   pub program-shorter : ((bs : List ℕ) (line : I) (rest : List ℕ) → reads bs ≡ Ok (line, rest) → length rest < length bs) → (lines more : List I) (bs rest : List ℕ) → program-step lines bs ≡ Ok (more, rest) → length rest < length bs
   program-shorter h lines more bs rest e = with-shorter (reads bs) (length bs) lines more rest (h bs) e
 
-  -- what the line's reader answered and left tells what it read
-  pub was-read : (o : Result (I × List ℕ) LineFault) (line : I) (bs rest : List ℕ) → Ok line ≡ read o → rest ≡ unread o bs → o ≡ Ok (line, rest)
-  was-read (Ok p) line bs rest e l = ap (λ x. Ok (x, p .1)) (sym (ok-same e)) ∙ ap (λ x. Ok (line, x)) (sym l)
-  was-read (Err f) line bs rest e l = absurd (err-ok (sym e))
-
-  pub was-refused : (o : Result (I × List ℕ) LineFault) (f : LineFault) → Err f ≡ read o → o ≡ Err f
-  was-refused (Ok p) f e = absurd (err-ok e)
-  was-refused (Err g) f e = let same : f ≡ g = cc in ap Err (sym same)
-
   pub step-refused : (lines : List I) (bs : List ℕ) (f : LineFault) → reads bs ≡ Err f → program-step lines bs ≡ Err (Line f)
   step-refused lines bs f e = ap (with-line lines) e
 

@@ -73,13 +73,14 @@ in-range-ok : {A : Type 0} (o : Option A) (rest after : List ℕ) (a : A) → in
 in-range-ok None rest after a e = absurd (err-ok e)
 in-range-ok (Some x) rest after a e = let p = ok-same e in (ap (λ y. Some (y .0)) p, ap (λ y. y .1) p)
 
-line-of-ok : (n : ℕ) (o : Result (List ℕ × List ℕ) LineFault) (vs bs : List ℕ) → Ok (take n vs) ≡ read o → o ≡ Ok (take n vs, unread o bs)
-line-of-ok n (Ok p) vs bs e = ap (λ x. Ok (x, p .1)) (sym (ok-same e))
-line-of-ok n (Err f) vs bs e = absurd (err-ok (sym e))
+-- what a reader answered and left tells what it read
+pub was-read : {A : Type 0} (o : Result (A × List ℕ) LineFault) (a : A) (bs rest : List ℕ) → Ok a ≡ read o → rest ≡ unread o bs → o ≡ Ok (a, rest)
+was-read (Ok p) a bs rest e l = ap (λ x. Ok (x, p .1)) (sym (ok-same e)) ∙ ap (λ x. Ok (a, x)) (sym l)
+was-read (Err f) a bs rest e l = absurd (err-ok (sym e))
 
-line-of-err : (o : Result (List ℕ × List ℕ) LineFault) (f : LineFault) → Err f ≡ read o → o ≡ Err f
-line-of-err (Ok p) f e = absurd (err-ok e)
-line-of-err (Err g) f e = let same : f ≡ g = cc in ap Err (sym same)
+pub was-refused : {A : Type 0} (o : Result (A × List ℕ) LineFault) (f : LineFault) → Err f ≡ read o → o ≡ Err f
+was-refused (Ok p) f e = absurd (err-ok e)
+was-refused (Err g) f e = let same : f ≡ g = cc in ap Err (sym same)
 
 listed-count : (limits : Limits) (ms : List ℕ) → listed limits ≡ ms → length ms ≤ limits .count
 listed-count limits ms e =
@@ -132,21 +133,21 @@ module _ {K A : Type 0} (F : Family K A) {Fits : A → Type 0} (codec : Codec F 
     -- what the reader of a family answers and leaves, by what the reader of its line did
     pub refuses : (f : LineFault) → Err f ≡ read (line (listed limits) bs) → (Err f ≡ read (reads F bs)) × (after ≡ unread (reads F bs) bs) × (bs ≡ unread (reads F bs) bs)
     refuses f e =
-        let l : line (F .limits k) bs ≡ Err f = ap (λ ms. line ms bs) (sym same) ∙ line-of-err (line (listed limits) bs) f e in
+        let l : line (F .limits k) bs ≡ Err f = ap (λ ms. line ms bs) (sym same) ∙ was-refused (line (listed limits) bs) f e in
         let is : reads F bs ≡ Err f = ap (by-kind F bs) chosen ∙ ap (made F k) l in
         let kept : bs ≡ unread (reads F bs) bs = sym (ap (λ o. unread o bs) is) in
         (sym (ap read is), left ∙ ap (λ o. unread o bs) (ap (λ ms. line ms bs) same ∙ l) ∙ kept, kept)
 
     pub answers : (vs : List ℕ) (a : A) → Ok (take (limits .count) vs) ≡ read (line (listed limits) bs) → F .make k vs ≡ Some a → (Ok a ≡ read (reads F bs)) × (after ≡ unread (reads F bs) bs)
     answers vs a e m =
-        let l : line (F .limits k) bs ≡ Ok (take (limits .count) vs, after) = ap (λ ms. line ms bs) (sym same) ∙ line-of-ok (limits .count) (line (listed limits) bs) vs bs e ∙ ap (λ r. Ok (take (limits .count) vs, r)) (sym left) in
+        let l : line (F .limits k) bs ≡ Ok (take (limits .count) vs, after) = ap (λ ms. line ms bs) (sym same) ∙ was-read (line (listed limits) bs) (take (limits .count) vs) bs after e left in
         let is : reads F bs ≡ Ok (a, after) = ap (by-kind F bs) chosen ∙ ap (made F k) l ∙ ap (λ o. in-range o after) (codec .enough k (limits .count) vs (listed-count limits (F .limits k) same) ∙ m) in
         (sym (ap read is), sym (ap (λ o. unread o bs) is))
 
     -- a line whose numbers make none is out of range, and is not passed
     pub rejects : (vs : List ℕ) → Ok (take (limits .count) vs) ≡ read (line (listed limits) bs) → F .make k vs ≡ None → (Err Range ≡ read (reads F bs)) × (bs ≡ unread (reads F bs) bs)
     rejects vs e m =
-        let l : line (F .limits k) bs ≡ Ok (take (limits .count) vs, after) = ap (λ ms. line ms bs) (sym same) ∙ line-of-ok (limits .count) (line (listed limits) bs) vs bs e ∙ ap (λ r. Ok (take (limits .count) vs, r)) (sym left) in
+        let l : line (F .limits k) bs ≡ Ok (take (limits .count) vs, after) = ap (λ ms. line ms bs) (sym same) ∙ was-read (line (listed limits) bs) (take (limits .count) vs) bs after e left in
         let is : reads F bs ≡ Err Range = ap (by-kind F bs) chosen ∙ ap (made F k) l ∙ ap (λ o. in-range o after) (codec .enough k (limits .count) vs (listed-count limits (F .limits k) same) ∙ m) in
         (sym (ap read is), sym (ap (λ o. unread o bs) is))
 
