@@ -1,3 +1,4 @@
 pub mod JobCodec
 pub mod SectionCodec
 pub mod HeadSteps
+pub mod HeadLaws

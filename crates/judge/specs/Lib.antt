@@ -3,3 +3,4 @@ pub mod Sections
 pub mod Faults
 pub mod Heads
 pub mod Headings
+pub mod HeadLaws

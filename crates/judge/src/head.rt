@@ -8,6 +8,7 @@ ghost use Rattle.judge.specs.declared.fault.Fault.the-variants.{Line as LineOf
 ghost use Rattle.judge.specs.Sections.{lies, first-wrong};
 ghost use Rattle.judge.specs.Heads.{sections-from, ReadsSections, heading};
 ghost use Rattle.judge.specs.Headings.{heading-of};
+ghost use Rattle.judge.specs.HeadLaws.{HeadExact};
 use crate::fault::Fault;
 use crate::fault::FaultFromLine;
 use crate::fault::Refusal;
@@ -82,28 +83,35 @@ pub struct Head {
     pub sections: [Section; 5],
 }
 
+fn head_of(file: &[u8]) -> Result<Head, Refusal>
+    ensures { λ r. ⌜ heading-of r ≡ heading (now (file .entry)) ⌝ }
+{
+    let mut reader = Reader::new(file);
+    let job = match JobLine::read(&mut reader) {
+        Ok(job) => job,
+        Err(fault) => return Err(in_head(fault, 1)),
+    };
+    let count = job.scope.threads() as usize + 1;
+    let sections = match read_sections(&mut reader, count) {
+        Ok(sections) => sections,
+        Err(refusal) => return Err(in_head(refusal.fault, refusal.line)),
+    };
+    let start = file.len().saturating_sub(reader.left());
+    match first_wrong_section(&sections[0..count], start, file.len()) {
+        Some(k) => Err(Refusal {
+            fault: Fault::Sections,
+            section: 0,
+            line: k + 2,
+        }),
+        None => Ok(Head { job, sections }),
+    }
+}
+
 impl Head {
     pub fn read(file: &[u8]) -> Result<Head, Refusal>
         ensures value { λ r. ⌜ heading-of r ≡ heading (now (file .entry)) ⌝ }
+        ensures exact { λ r. ⌜ HeadExact (now (file .entry)) (heading-of r) ⌝ }
     {
-        let mut reader = Reader::new(file);
-        let job = match JobLine::read(&mut reader) {
-            Ok(job) => job,
-            Err(fault) => return Err(in_head(fault, 1)),
-        };
-        let count = job.scope.threads() as usize + 1;
-        let sections = match read_sections(&mut reader, count) {
-            Ok(sections) => sections,
-            Err(refusal) => return Err(in_head(refusal.fault, refusal.line)),
-        };
-        let start = file.len().saturating_sub(reader.left());
-        match first_wrong_section(&sections[0..count], start, file.len()) {
-            Some(k) => Err(Refusal {
-                fault: Fault::Sections,
-                section: 0,
-                line: k + 2,
-            }),
-            None => Ok(Head { job, sections }),
-        }
+        head_of(file)
     }
 }

@@ -106,7 +106,7 @@ module _ {K A : Type 0} (F : Family K A) {Fits : A → Type 0} (codec : Codec F 
   found-in bs None a rest e m = absurd (err-ok m)
   found-in bs (Some k) a rest e m = by-made bs k (line (F .limits k) bs) a rest refl e m
 
-  is-spelled : (bs : List ℕ) (a : A) (rest : List ℕ) → reads F bs ≡ Ok (a, rest) → (bs ≡ spells F a ++ rest) × Fits a
+  pub is-spelled : (bs : List ℕ) (a : A) (rest : List ℕ) → reads F bs ≡ Ok (a, rest) → (bs ≡ spells F a ++ rest) × Fits a
   is-spelled bs a rest e =
       let f = found-in bs (and-then (letter bs) (lookup (F .letters))) a rest refl e in
       let w = line-is-written (F .limits (f .kind)) bs (f .values) rest (codec .writable (f .kind)) (f .lined) in
@@ -115,7 +115,7 @@ module _ {K A : Type 0} (F : Family K A) {Fits : A → Type 0} (codec : Codec F 
       let same : w .0 ≡ F .letter-of (F .kind-of a) = sym (right-lookup (F .letter-of) (F .letters) (w .0) (f .kind) (codec .right) at-front) ∙ ap (F .letter-of) (sym (m .0)) in
       (w .1 ∙ ap (λ c. spelled c (f .values) ++ rest) same ∙ ap (λ vs. spelled (F .letter-of (F .kind-of a)) vs ++ rest) (sym (m .1)), m .2)
 
-  is-read : (bs : List ℕ) (a : A) (rest : List ℕ) → Fits a → bs ≡ spells F a ++ rest → reads F bs ≡ Ok (a, rest)
+  pub is-read : (bs : List ℕ) (a : A) (rest : List ℕ) → Fits a → bs ≡ spells F a ++ rest → reads F bs ≡ Ok (a, rest)
   is-read bs a rest fits e =
       let w = codec .writes a fits in
       let l = line-written (F .limits (F .kind-of a)) (F .numbers a) rest (F .letter-of (F .kind-of a)) (codec .writable (F .kind-of a)) (w .0) in
