@@ -2,3 +2,4 @@ pub mod JobCodec
 pub mod SectionCodec
 pub mod HeadSteps
 pub mod HeadLaws
+pub mod Overs

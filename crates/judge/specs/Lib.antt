@@ -4,3 +4,4 @@ pub mod Faults
 pub mod Heads
 pub mod Headings
 pub mod HeadLaws
+pub mod Writing

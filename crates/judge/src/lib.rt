@@ -3,3 +3,4 @@ pub mod fault;
 pub mod head;
 pub mod job;
 pub mod section;
+mod write;
