@@ -3,3 +3,5 @@ pub mod SectionCodec
 pub mod HeadSteps
 pub mod HeadLaws
 pub mod Overs
+pub mod Cuts
+pub mod ProgramsRead

@@ -5,3 +5,4 @@ pub mod Heads
 pub mod Headings
 pub mod HeadLaws
 pub mod Writing
+pub mod Programs

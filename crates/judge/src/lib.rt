@@ -2,5 +2,6 @@
 pub mod fault;
 pub mod head;
 pub mod job;
+pub mod programs;
 pub mod section;
 mod write;

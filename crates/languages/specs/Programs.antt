@@ -22,6 +22,9 @@ with-line lines (Ok p) = cond (ltb (length lines) 64) (Ok (lines ++ (p .0 ∷ []
 abbrev pub program : {I : Type 0} → (List ℕ → Result (I × List ℕ) LineFault) → List ℕ → Result (List I) (LineRefusal ProgramFault)
 program {I} reads bs = walked (λ (lines : List I) xs. with-line lines (reads xs)) [] bs
 
+abbrev pub program-lines : {I : Type 0} → Program I → List I
+program-lines p = take (p .len) (p .lines)
+
 abbrev pub lines-of : {I : Type 0} → Result (Program I) (LineRefusal ProgramFault) → Result (List I) (LineRefusal ProgramFault)
-lines-of (Ok p) = Ok (take (p .len) (p .lines))
+lines-of (Ok p) = Ok (program-lines p)
 lines-of (Err f) = Err f

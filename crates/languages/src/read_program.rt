@@ -1,7 +1,8 @@
 // How a program is read from its section.
 ghost use mathlib.Core.Path.{_≡_};
+ghost use mathlib.Core.List.{[]};
 ghost use Prim.Native.Nat.{ℕ, _≤_};
-ghost use Rattle.languages.specs.Programs.{lines-of, program};
+ghost use Rattle.languages.specs.Programs.{program-lines, lines-of, program};
 use crate::program::MOST_LINES;
 use crate::program::ProgramLine;
 use lines::reader::LineFault;
@@ -24,6 +25,15 @@ pub struct Program<I> {
 }
 
 impl<I: ProgramLine> Program<I> {
+    pub fn empty() -> Program<I>
+        ensures { λ r. ⌜ program-lines r ≡ [] ⌝ }
+    {
+        Program {
+            lines: [I::filler(); 64],
+            len: 0,
+        }
+    }
+
     // Reads lines to the section's end.
     pub fn read(section: &[u8], scope: Scope) -> Result<Program<I>, LineRefusal<ProgramFault>>
         ensures { λ r. ⌜ lines-of r ≡ program (I·ProgramLine .reads (scope .locations)) (now (section .entry)) ⌝ }
