@@ -1,25 +1,11 @@
--- Parts of a list, cut off at its end.
-use mathlib.Core.Path.{_≡_, refl, sym, ap, _∙_}
-use mathlib.Core.List.{List, [], _∷_}
-use mathlib.Core.Logic.{_⊎_, inl, inr}
-use Prim.Native.Nat.{ℕ, _+_, _-_, _<_, _≤_, min}
-use native.Mathlib.Nat.{min-eq-left, min-eq-right}
+-- A section, cut off at the file's end.
+use mathlib.Core.Path.{_≡_, ap, _∙_}
+use mathlib.Core.List.{List}
+use Prim.Native.Nat.{ℕ, _-_, min}
 use native.Mathlib.Omega.{arith}
 use lib.ListN.{length, take, drop}
-use Rattle.std.proofs.shelf.Lists.{take-all, drop-all, take-rest}
-use Rattle.std.proofs.shelf.Tests.{cases-lt}
-
-take-min : {X : Type 0} (n : ℕ) (xs : List X) → take (min n (length xs)) xs ≡ take n xs
-take-min n xs = elim (cases-lt n (length xs)) [
-      | inl l ↦ ap (λ k. take k xs) (min-eq-left (omega arith))
-      | inr g ↦ ap (λ k. take k xs) (min-eq-right g) ∙ take-all (length xs) xs (omega arith) ∙ sym (take-all n xs g)
-    ]
-
-drop-min : {X : Type 0} (n : ℕ) (xs : List X) → drop (min n (length xs)) xs ≡ drop n xs
-drop-min n xs = elim (cases-lt n (length xs)) [
-      | inl l ↦ ap (λ k. drop k xs) (min-eq-left (omega arith))
-      | inr g ↦ ap (λ k. drop k xs) (min-eq-right g) ∙ drop-all (length xs) xs (omega arith) ∙ sym (drop-all n xs g)
-    ]
+use Rattle.std.proofs.shelf.Lists.{take-rest}
+use Rattle.lines.proofs.Cuts.{take-min, drop-min}
 
 pub cut-is : (xs rest : List ℕ) (o n s c : ℕ) → s ≡ min o (length xs) → rest ≡ take (length xs - s) (drop s xs) → c ≡ min n (length rest) → take (c - 0) rest ≡ take n (drop o xs)
 cut-is xs rest o n s c es er ec =

@@ -5,3 +5,5 @@ pub mod HeadLaws
 pub mod Overs
 pub mod Cuts
 pub mod ProgramsRead
+pub mod TraceSteps
+pub mod FormSteps

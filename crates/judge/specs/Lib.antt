@@ -6,3 +6,5 @@ pub mod Headings
 pub mod HeadLaws
 pub mod Writing
 pub mod Programs
+pub mod Traces
+pub mod Outcomes

@@ -2,6 +2,8 @@
 pub mod fault;
 pub mod head;
 pub mod job;
+pub mod outcome;
 pub mod programs;
 pub mod section;
+mod trace;
 mod write;

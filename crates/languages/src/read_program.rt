@@ -34,6 +34,15 @@ impl<I: ProgramLine> Program<I> {
         }
     }
 
+    // The lines of the program.
+    pub fn lines(&self) -> &[I]
+        ensures { λ r. ⌜ now r ≡ program-lines (now (self .entry)) ⌝ }
+    {
+        let all = &self.lines[..];
+        let count = self.len.min(all.len());
+        &all[0..count]
+    }
+
     // Reads lines to the section's end.
     pub fn read(section: &[u8], scope: Scope) -> Result<Program<I>, LineRefusal<ProgramFault>>
         ensures { λ r. ⌜ lines-of r ≡ program (I·ProgramLine .reads (scope .locations)) (now (section .entry)) ⌝ }

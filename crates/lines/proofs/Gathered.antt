@@ -4,15 +4,13 @@ use mathlib.Core.List.{List, [], _∷_, _++_, append-assoc}
 use Prim.Native.Nat.{ℕ, _+_, _-_, _<_, _≤_, min}
 use native.Mathlib.Omega.{arith}
 use lib.ListN.{length, getD, take, drop, set}
-use Rattle.std.proofs.shelf.Lists.{at-drop-more, at-drop-all, append-nil, length-set, take-more-set, take-all}
-use Rattle.std.proofs.shelf.Tests.{cases-lt}
-use native.Mathlib.Nat.{min-eq-left, min-eq-right}
-use mathlib.Core.Logic.{_⊎_, inl, inr}
+use Rattle.std.proofs.shelf.Lists.{at-drop-more, at-drop-all, append-nil, length-set, take-more-set}
 use Rattle.std.specs.Options.{mapped}
 use Rattle.std.specs.declared.option.Option.{Option}
 use Rattle.std.specs.declared.option.Option.the-variants.{Some, None}
 use Rattle.lines.specs.Fields.{field, fields, with-first, and-then}
 use Rattle.lines.specs.Reading.{set-in, Six}
+use Rattle.lines.proofs.Cuts.{take-min}
 
 abbrev pub both : Option (List ℕ) → Option (List ℕ) → Option (List ℕ)
 both None b = None
@@ -74,10 +72,7 @@ set-in-six (Some vs) k None six = tt
 set-in-six (Some vs) k (Some v) six = length-set vs k v ∙ six
 
 pub same-take : (vs : List ℕ) (n k : ℕ) → length vs ≡ 6 → k ≡ min n 6 → take k vs ≡ take n vs
-same-take vs n k six e = elim (cases-lt n 6) [
-  | inl l ↦ ap (λ i. take i vs) (e ∙ min-eq-left (omega arith))
-  | inr g ↦ ap (λ i. take i vs) (e ∙ min-eq-right g) ∙ take-all 6 vs (omega arith) ∙ sym (take-all n vs (omega arith))
-]
+same-take vs n k six e = ap (λ i. take i vs) (e ∙ ap (min n) (sym six)) ∙ take-min n vs
 
 -- of at most six numbers, the first so many are those that were read
 pub take-six : (vs : Option (List ℕ)) (n k : ℕ) → Six vs → k ≡ min n 6 → mapped (take k) vs ≡ mapped (take n) vs

@@ -1,3 +1,4 @@
+pub mod Cuts
 pub mod Options
 pub mod Numbers
 pub mod Gathered
