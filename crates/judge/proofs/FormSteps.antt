@@ -18,7 +18,7 @@ use Rattle.judge.specs.Programs.{cut, programs-after}
 use Rattle.judge.specs.Traces.{trace-lines-read}
 use Rattle.judge.specs.Outcomes.{Counts, nowhere, trace-in, with-trace, read-as, read-in, judged-form}
 
-four : {X : Type 0} (f : X → ℕ) (xs : List X) (d : X) → length xs ≡ 4 → map f xs ≡ f (getD xs 0 d) ∷ f (getD xs 1 d) ∷ f (getD xs 2 d) ∷ f (getD xs 3 d) ∷ []
+pub four : {X : Type 0} (f : X → ℕ) (xs : List X) (d : X) → length xs ≡ 4 → map f xs ≡ f (getD xs 0 d) ∷ f (getD xs 1 d) ∷ f (getD xs 2 d) ∷ f (getD xs 3 d) ∷ []
 four f [] d h = absurd (omega arith)
 four f (a ∷ []) d h = absurd (omega arith)
 four f (a ∷ (b ∷ [])) d h = absurd (omega arith)

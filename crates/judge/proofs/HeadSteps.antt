@@ -53,9 +53,9 @@ module _ (ss : List Section) (k at end : ℕ) (d : Section) (h : k < length ss) 
 
   same-last : (last : Bool) → last ≡ eqb (k + 1) (length ss) → none-left (drop (k + 1) ss) ≡ last
   same-last last l = elim (cases-eq (k + 1) (length ss)) [
-        | inl e ↦ is-last e ∙ sym (l ∙ eq-eqb (k + 1) (length ss) e)
-        | inr e ↦ not-last e ∙ sym (l ∙ ne-eqb (k + 1) (length ss) e)
-      ]
+    | inl e ↦ is-last e ∙ sym (l ∙ eq-eqb (k + 1) (length ss) e)
+    | inr e ↦ not-last e ∙ sym (l ∙ ne-eqb (k + 1) (length ss) e)
+  ]
 
   pub wrong-stop : (last : Bool) → last ≡ eqb (k + 1) (length ss) → lies at here last end ≡ false → first-wrong k at (drop k ss) end ≡ Some k
   wrong-stop last l e = wrong-step ∙ rw (same-last last l, e)

@@ -43,10 +43,10 @@ job-writes j fits =
 
 job-makes : (vs : List ℕ) (j : Job) → InRange (1 ∷ 4 ∷ 8 ∷ []) vs → job-make vs ≡ Some j → (language-number (j .language) ∷ j .threads ∷ j .locations ∷ [] ≡ vs) × JobFits j
 job-makes vs j h e = elim (cases-bool (in-scope (getD vs 1 0) (getD vs 2 0))) [
-      | inl t ↦ let same = some-same (rw t at e) in
-          (ap (λ (x : Job). language-number (x .language) ∷ x .threads ∷ x .locations ∷ []) (sym same) ∙ ap (λ g. g ∷ getD vs 1 0 ∷ getD vs 2 0 ∷ []) (language-back (getD vs 0 0) (range-at (1 ∷ 4 ∷ 8 ∷ []) vs h 0 (omega arith))) ∙ gets-all (1 ∷ 4 ∷ 8 ∷ []) vs h, ap (λ (x : Job). in-scope (x .threads) (x .locations)) (sym same) ∙ t)
-      | inr f ↦ absurd (none-some (rw f at e))
-    ]
+  | inl t ↦ let same = some-same (rw t at e) in
+      (ap (λ (x : Job). language-number (x .language) ∷ x .threads ∷ x .locations ∷ []) (sym same) ∙ ap (λ g. g ∷ getD vs 1 0 ∷ getD vs 2 0 ∷ []) (language-back (getD vs 0 0) (range-at (1 ∷ 4 ∷ 8 ∷ []) vs h 0 (omega arith))) ∙ gets-all (1 ∷ 4 ∷ 8 ∷ []) vs h, ap (λ (x : Job). in-scope (x .threads) (x .locations)) (sym same) ∙ t)
+  | inr f ↦ absurd (none-some (rw f at e))
+]
 
 pub job-codec : Codec job-lines JobFits
 job-codec =

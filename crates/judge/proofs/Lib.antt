@@ -7,3 +7,4 @@ pub mod Cuts
 pub mod ProgramsRead
 pub mod TraceSteps
 pub mod FormSteps
+pub mod Lengths

@@ -4,7 +4,7 @@ use mathlib.Core.List.{List, [], _∷_, _++_, append-assoc}
 use Prim.Native.Nat.{ℕ, suc, _+_, _-_, _<_, _≤_}
 use native.Mathlib.Omega.{arith}
 use lib.ListN.{length, getD, take, drop, set, replicate, length-append}
-use Rattle.std.proofs.shelf.Lists.{length-take-le, length-push, length-drop, take-at, drop-at, drop-more, drop-drop, drop-replicate, set-at, set-split}
+use Rattle.std.proofs.shelf.Lists.{take-append-drop, length-take-le, length-push, length-drop, take-at, drop-at, drop-more, drop-drop, drop-replicate, set-at, set-split}
 use Rattle.judge.specs.Writing.{over}
 
 -- one byte more after what was written
@@ -47,3 +47,16 @@ over-zeros n ts = let z : 0 + length ts ≡ length ts = omega arith in ap (λ k.
 pub over-step : (xs : List ℕ) (at b : ℕ) (ts us : List ℕ) → at + 1 + length ts + length us ≤ length xs → over (over (set xs at b) (at + 1) ts) (at + 1 + length ts) us ≡ over xs at (b ∷ (ts ++ us))
 over-step xs at b ts us h =
     ap (λ l. over (over l (at + 1) ts) (at + 1 + length ts) us) (over-one xs at b (omega arith)) ∙ ap (λ l. over l (at + 1 + length ts) us) (over-over xs at (b ∷ []) ts (omega arith)) ∙ ap (λ n. over (over xs at (b ∷ ts)) n us) (let l : at + 1 + length ts ≡ at + length (b ∷ ts) = omega arith in l) ∙ over-over xs at (b ∷ ts) us (omega arith)
+
+-- a byte, then a text
+pub over-cons : (xs : List ℕ) (at b : ℕ) (ts : List ℕ) → at + 1 + length ts ≤ length xs → over (set xs at b) (at + 1) ts ≡ over xs at (b ∷ ts)
+over-cons xs at b ts h = ap (λ l. over l (at + 1) ts) (over-one xs at b (omega arith)) ∙ over-over xs at (b ∷ []) ts (omega arith)
+
+-- a text written, and the rest of what is to be written
+pub over-then : (xs ys : List ℕ) (at next : ℕ) (ts us : List ℕ) → ys ≡ over xs at ts → next ≡ at + length ts → at + length (ts ++ us) ≤ length xs → (over ys next us ≡ over xs at (ts ++ us)) × (next + length us ≡ at + length (ts ++ us)) × (length ys ≡ length xs)
+over-then xs ys at next ts us e n h =
+    let l = length-append ts us in
+    (ap (λ l. over l next us) e ∙ ap (λ k. over (over xs at ts) k us) n ∙ over-over xs at ts us (omega arith), omega arith, ap length e ∙ length-over xs at ts (omega arith))
+
+pub over-none : (xs : List ℕ) (at : ℕ) → over xs at [] ≡ xs
+over-none xs at = let z : at + 0 ≡ at = omega arith in ap (λ n. take at xs ++ drop n xs) z ∙ take-append-drop at xs

@@ -60,5 +60,5 @@ tiled j ss (Some k) = Err (record { fault = Sections; section = 0; line = k + 2 
 abbrev pub heading : List ℕ → Result Heading Refusal
 heading file =
     and-then (line-fault-in 0 (at-line 1 (reads job-lines file))) (λ j.
-      and-then (line-fault-in 0 (sections-from (j .0 .threads + 1) 2 [] (j .1))) (λ d.
-        tiled (j .0) (d .0) (first-wrong 0 (length file - length (d .1)) (d .0) (length file))))
+    and-then (line-fault-in 0 (sections-from (j .0 .threads + 1) 2 [] (j .1))) (λ d.
+    tiled (j .0) (d .0) (first-wrong 0 (length file - length (d .1)) (d .0) (length file))))

@@ -8,3 +8,4 @@ pub mod Writing
 pub mod Programs
 pub mod Traces
 pub mod Outcomes
+pub mod Reports

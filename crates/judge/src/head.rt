@@ -55,7 +55,11 @@ fn lies_at(section: Section, at: usize, last: bool, end: usize) -> bool
     if section.offset != at {
         return false;
     }
-    if last { section.length == room } else { section.length <= room }
+    if last {
+        section.length == room
+    } else {
+        section.length <= room
+    }
 }
 
 // The first section that does not begin where the one before ended, or that passes the file's end,

@@ -23,7 +23,11 @@ pub struct JobLine {
 fn language_of(number: u32) -> LanguageChoice
     ensures { λ r. ⌜ r ≡ language-of number ⌝ }
 {
-    if number == 0 { LanguageChoice::Registers } else { LanguageChoice::Strips }
+    if number == 0 {
+        LanguageChoice::Registers
+    } else {
+        LanguageChoice::Strips
+    }
 }
 
 impl JobLine {

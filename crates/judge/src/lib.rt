@@ -4,6 +4,7 @@ pub mod head;
 pub mod job;
 pub mod outcome;
 pub mod programs;
+pub mod report;
 pub mod section;
 mod trace;
 mod write;

@@ -52,14 +52,30 @@ impl Head {
         ensures { λ r. ⌜ outcome-of r ≡ read-as (reads (register-lines (now (self .entry) .job .scope .locations))) (now (file .entry)) (now (self .entry) .job .scope .threads) (now (self .entry) .job .scope .locations) (now (self .entry) .sections) ⌝ }
     {
         let p = self.programs::<RegisterLine>(file)?;
-        self.with_trace(file, [p[0].lines().len(), p[1].lines().len(), p[2].lines().len(), p[3].lines().len()])
+        self.with_trace(
+            file,
+            [
+                p[0].lines().len(),
+                p[1].lines().len(),
+                p[2].lines().len(),
+                p[3].lines().len(),
+            ],
+        )
     }
 
     fn strip_form(&self, file: &[u8]) -> Result<Form, Refusal>
         ensures { λ r. ⌜ outcome-of r ≡ read-as (reads (strip-lines (now (self .entry) .job .scope .locations))) (now (file .entry)) (now (self .entry) .job .scope .threads) (now (self .entry) .job .scope .locations) (now (self .entry) .sections) ⌝ }
     {
         let p = self.programs::<StripLine>(file)?;
-        self.with_trace(file, [p[0].lines().len(), p[1].lines().len(), p[2].lines().len(), p[3].lines().len()])
+        self.with_trace(
+            file,
+            [
+                p[0].lines().len(),
+                p[1].lines().len(),
+                p[2].lines().len(),
+                p[3].lines().len(),
+            ],
+        )
     }
 }
 

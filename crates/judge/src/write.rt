@@ -4,11 +4,11 @@ ghost use mathlib.Core.List.{_++_};
 ghost use Prim.Native.Nat.{ℕ, _+_, _≤_};
 ghost use lib.ListN.{length};
 ghost use Rattle.std.specs.Written.{decimal};
-ghost use Rattle.lines.specs.Spelling.{spelled-fields};
+ghost use Rattle.lines.specs.Spelling.{spelled-fields, spelled};
 ghost use Rattle.judge.specs.Writing.{over};
 
 // Writes a number in decimal, and answers the place after it.
-fn put_number(out: &mut [u8], at: usize, number: u32) -> usize
+fn put_number(out: &mut [u8], at: usize, number: u64) -> usize
     requires { ⌜ at + length (decimal number) ≤ length (now out) ⌝ }
     ensures value { λ r. ⌜ r ≡ at + length (decimal number) ⌝ }
     ensures after { λ _. ⌜ now (out .exit) ≡ over (now (out .entry)) at (decimal number) ⌝ }
@@ -23,7 +23,7 @@ fn put_number(out: &mut [u8], at: usize, number: u32) -> usize
 }
 
 // Writes each number with a space before it, and a line feed.
-fn put_fields(out: &mut [u8], at: usize, numbers: &[u32]) -> usize
+fn put_fields(out: &mut [u8], at: usize, numbers: &[u64]) -> usize
     requires { ⌜ at + length (spelled-fields (now numbers)) ≤ length (now out) ⌝ }
     ensures value { λ r. ⌜ r ≡ at + length (spelled-fields (now (numbers .entry))) ⌝ }
     ensures after { λ _. ⌜ now (out .exit) ≡ over (now (out .entry)) at (spelled-fields (now (numbers .entry))) ⌝ }
@@ -35,4 +35,14 @@ fn put_fields(out: &mut [u8], at: usize, numbers: &[u32]) -> usize
     }
     out[next] = b'\n';
     next + 1
+}
+
+// Writes a line: a letter, then its numbers.
+pub(crate) fn put_line(out: &mut [u8], at: usize, letter: u8, numbers: &[u64]) -> usize
+    requires { ⌜ at + length (spelled letter (now numbers)) ≤ length (now out) ⌝ }
+    ensures value { λ r. ⌜ r ≡ at + length (spelled letter (now (numbers .entry))) ⌝ }
+    ensures after { λ _. ⌜ now (out .exit) ≡ over (now (out .entry)) at (spelled letter (now (numbers .entry))) ⌝ }
+{
+    out[at] = letter;
+    put_fields(out, at + 1, numbers)
 }

@@ -11,12 +11,12 @@ use Rattle.std.proofs.shelf.Tests.{cases-lt}
 
 pub take-min : {X : Type 0} (n : ℕ) (xs : List X) → take (min n (length xs)) xs ≡ take n xs
 take-min n xs = elim (cases-lt n (length xs)) [
-      | inl l ↦ ap (λ k. take k xs) (min-eq-left (omega arith))
-      | inr g ↦ ap (λ k. take k xs) (min-eq-right g) ∙ take-all (length xs) xs (omega arith) ∙ sym (take-all n xs g)
-    ]
+  | inl l ↦ ap (λ k. take k xs) (min-eq-left (omega arith))
+  | inr g ↦ ap (λ k. take k xs) (min-eq-right g) ∙ take-all (length xs) xs (omega arith) ∙ sym (take-all n xs g)
+]
 
 pub drop-min : {X : Type 0} (n : ℕ) (xs : List X) → drop (min n (length xs)) xs ≡ drop n xs
 drop-min n xs = elim (cases-lt n (length xs)) [
-      | inl l ↦ ap (λ k. drop k xs) (min-eq-left (omega arith))
-      | inr g ↦ ap (λ k. drop k xs) (min-eq-right g) ∙ drop-all (length xs) xs (omega arith) ∙ sym (drop-all n xs g)
-    ]
+  | inl l ↦ ap (λ k. drop k xs) (min-eq-left (omega arith))
+  | inr g ↦ ap (λ k. drop k xs) (min-eq-right g) ∙ drop-all (length xs) xs (omega arith) ∙ sym (drop-all n xs g)
+]
