@@ -1,0 +1,2 @@
+// The row store: each location's messages in order of their ends.
+mod table;
