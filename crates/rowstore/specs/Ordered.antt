@@ -1,18 +1,12 @@
 -- The rows of a list of messages.
 use mathlib.Core.List.{List, [], _∷_}
 use mathlib.Core.Bool.{cond}
-use Prim.Native.Nat.{ℕ, _+_, min}
+use Prim.Native.Nat.{ℕ, _+_}
 use lib.Dec.{eqb}
 use Rattle.stores.specs.declared.message.Message.{Message}
 use Rattle.rowstore.specs.declared.entry.Entry.{Entry}
 use Rattle.rowstore.specs.Entries.{placed}
-
--- the row of a location: its own for each of eight, and the ninth for all others
-abbrev pub row-of : ℕ → ℕ
-row-of x = min x 8
-
-abbrev pub entry-of : Message → ℕ → Entry
-entry-of m k = record { location = m .location; from = m .from; to = m .to; number = k }
+use Rattle.rowstore.specs.Tables.{row-of, entry-of}
 
 -- row y with the messages placed in it in order of arrival, of which the first has number k
 abbrev pub ordered-from : ℕ → ℕ → List Message → List Entry → List Entry

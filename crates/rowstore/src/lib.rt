@@ -1,4 +1,5 @@
 // The row store: each location's messages in order of their ends.
 mod entry;
+mod index;
 mod row;
 mod table;
