@@ -7,6 +7,8 @@ use Prim.Native.Nat.{ℕ, zero, suc, _+_, _-_, _<_, _≤_, max}
 use native.Mathlib.Omega.{arith}
 use lib.Dec.{eqb, ltb}
 use lib.ListN.{length, getD, take, drop, length-drop, length-take}
+use Rattle.std.specs.shelf.Lists.{All}
+use Rattle.std.proofs.shelf.Elements.{all-from-getD}
 use Rattle.std.proofs.shelf.Lists.{at-drop-more, getD-drop, getD-take, take-more}
 use Rattle.std.proofs.shelf.Tests.{cond-true, cond-false, eq-eqb, ne-eqb, lt-ltb, le-ltb, and-from, and-left, and-right, cases-eq}
 use Rattle.std.specs.declared.option.Option.the-variants.{Some, None}
@@ -18,20 +20,20 @@ module _ (x t : ℕ) where
   number-at-skip e es h = sym (cond-false _ _ _ (and-right _ _ (ne-eqb (e .to) t (λ q. omega arith))))
 
   -- none of those that end later
-  pub number-at-none : (es : List Entry) → ((i : ℕ) → i < length es → t < getD es i no-entry .to) → number-at x t es ≡ None
+  pub number-at-none : (es : List Entry) → All (λ e. t < e .to) es → number-at x t es ≡ None
   number-at-none [] h = refl
   number-at-none (e ∷ es) h =
-      let later = h 0 (omega arith) in
-      cond-false _ _ _ (and-right _ _ (ne-eqb (e .to) t (λ q. omega arith))) ∙ number-at-none es (λ i l. h (suc i) (omega arith))
+      let later : t < e .to = h .0 in
+      cond-false _ _ _ (and-right _ _ (ne-eqb (e .to) t (λ q. omega arith))) ∙ number-at-none es (h .1)
 
   module _ (es : List Entry) (i : ℕ) (h : i < length es) where
     pub number-at-past : In-order es → t < getD es i no-entry .to → number-at x t (drop i es) ≡ None
     number-at-past o p =
-        number-at-none (drop i es) (λ j l.
+        number-at-none (drop i es) (all-from-getD (λ (e : Entry). t < e .to) (drop i es) no-entry (λ j l.
         let a = ap (λ (e : Entry). e .to) (getD-drop i es j no-entry) in
         let b = length-drop i es in
         let r = o i (i + j) (omega arith) (omega arith) in
-        omega arith)
+        omega arith))
 
     pub number-at-here : getD es i no-entry .location ≡ x → getD es i no-entry .to ≡ t → number-at x t (drop i es) ≡ Some (getD es i no-entry .number)
     number-at-here p q = at-drop-more (number-at x t) es i no-entry h ∙ cond-true _ _ _ (and-from _ _ (eq-eqb _ _ p) (eq-eqb _ _ q))

@@ -2,4 +2,5 @@
 mod entry;
 mod index;
 mod row;
+pub mod rows;
 mod table;
