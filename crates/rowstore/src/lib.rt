@@ -4,3 +4,5 @@ mod index;
 mod row;
 pub mod rows;
 mod table;
+#[cfg(test)]
+mod tests;
