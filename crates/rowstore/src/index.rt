@@ -5,7 +5,7 @@ ghost use lib.ListN.{length};
 ghost use Rattle.rowstore.specs.Entries.{Well-formed};
 ghost use Rattle.rowstore.specs.Tables.{row-of, row-at, with-message, empty, Kept-below};
 use crate::entry::Entry;
-use crate::row::LENGTH;
+use crate::row::CAPACITY;
 use crate::row::Row;
 use crate::table::Table;
 use stores::message::Message;
@@ -37,7 +37,7 @@ impl Index {
             number: 0,
         };
         let row = Row {
-            entries: [entry; LENGTH],
+            entries: [entry; CAPACITY],
             len: 0,
         };
         Index {

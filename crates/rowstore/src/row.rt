@@ -6,11 +6,11 @@ ghost use Rattle.rowstore.specs.Entries.{Well-formed, listed, before, number-a
 use crate::entry::Entry;
 use lines::End;
 
-pub const LENGTH: usize = 64;
+pub const CAPACITY: usize = 64;
 
 #[derive(Clone, Copy)]
 pub struct Row {
-    pub entries: [Entry; LENGTH],
+    pub entries: [Entry; CAPACITY],
     pub len: usize,
 }
 
