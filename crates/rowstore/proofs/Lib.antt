@@ -1,0 +1,5 @@
+mod Fronts
+mod RowScans
+mod Placed
+mod Orders
+mod Stored

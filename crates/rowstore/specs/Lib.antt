@@ -1,0 +1,3 @@
+pub mod Entries
+pub mod Tables
+pub mod Ordered
