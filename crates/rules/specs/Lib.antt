@@ -1,0 +1,4 @@
+pub mod Faults
+pub mod Models
+pub mod Threads
+pub mod Rules
