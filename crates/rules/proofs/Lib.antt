@@ -1,3 +1,5 @@
 pub mod Members
 pub mod Marked
 pub mod Accepts
+pub mod Preserved
+pub mod Shifted
