@@ -3,3 +3,4 @@ pub mod Marked
 pub mod Accepts
 pub mod Preserved
 pub mod Shifted
+pub mod Sound

@@ -25,12 +25,18 @@ use Rattle.stores.specs.Memory.{greatest-end}
 use Rattle.stores.specs.StoreLaws.{In, Free, Overlaps}
 use Rattle.stores.proofs.StoreLaws.{greatest-end-bound}
 use Rattle.rules.specs.Models.{Views}
-use Rattle.rules.specs.Threads.{rel-at, read-cur, read-views, write-rel, write-views, all-views}
+use Rattle.rules.specs.Threads.{rel-at, read-cur, read-views, write-rel, write-views}
 use Rattle.rules.specs.Rules.{written, updated-message, update-views, closing-line}
 use Rattle.rules.specs.Alone.{Lone, Within, went-on, kept, Owes-nothing, Alone, silent, acquire-fence, release-fence, both-fence, sequential-fence, print, read, write, update, keep, Steps, done, then, Can-keep}
 use Rattle.rules.specs.Laws.{Known, Known-views, Well-formed}
 use Rattle.rules.proofs.Members.{in-left, in-right, in-split, in-push, in-map, in-map-back}
 use Rattle.rules.proofs.Preserved.{Holds, Sane, Fit}
+
+-- the steps of a showing: each while something is owed
+pub data Shown (l : ℕ) (cl : View) (k : Lone) (S : View) (M : List Message) : Lone → View → List Message → Type 0 where
+  start : Shown l cl k S M k S M
+  more : {k₁ k₂ : Lone} {S₁ S₂ : View} {M₁ M₂ : List Message} {ln : Line}
+      → Shown l cl k S M k₁ S₁ M₁ → (Owes-nothing k₁ → ⊥) → Alone l (Some cl) k₁ S₁ M₁ ln k₂ S₂ M₂ → Shown l cl k S M k₂ S₂ M₂
 
 -- a time above the line comes `by` later
 later : (low by t : ℕ) → ℕ
@@ -267,10 +273,10 @@ module _ (l : ℕ) (cl : View) (base big : List Message) (has : Within base big)
           let b : m .from < t = let q = o .2 in omega (arith, et) in
           fr m (subst (In m) (sym split) (in-right m base new (r .1))) (loc, a, b)
 
-  -- the step, made later
-  abbrev Made : Lone → View → List Message → Lone → View → List Message → Type 0
-  Made k S new k′ S′ ms′ =
-      (new′ : List Message) × (ms′ ≡ base ++ new′) × New new′ × Owes k′ × ((ln : Line) × Alone l None (sl k) (sv S) (wide new) ln (sl k′) (sv S′) (wide new′))
+  -- the step, made later, with every S
+  abbrev Made : Lone → List Message → Lone → List Message → Type 0
+  Made k new k′ ms′ =
+      (new′ : List Message) × (ms′ ≡ base ++ new′) × New new′ × Owes k′ × ((ln : Line) × ((S : View) → Alone l None (sl k) S (wide new) ln (sl k′) S (wide new′)))
 
   cur-le : (k : Lone) (x t : ℕ) → at (k .views .cur) x ≤ t → at (sv (k .views .cur)) x ≤ sh x t
   cur-le k x t h = subst (λ (u : ℕ). u ≤ sh x t) (sym (at-shift low by (k .views .cur) x)) (later-le (low x) (by x) (at (k .views .cur) x) t h)
@@ -282,42 +288,40 @@ module _ (l : ℕ) (cl : View) (base big : List Message) (has : Within base big)
   grown : (new : List Message) (m : Message) → wide new ++ (sm m ∷ []) ≡ wide (new ++ (m ∷ []))
   grown new m = append-assoc big (map sm new) (sm m ∷ []) ∙ ap (λ (xs : List Message). big ++ xs) (sym (map-push sm new m))
 
-  wrote : (k : Lone) (S : View) (ms new : List Message) (ln : Line) (v : ℕ) (vs : Views) (m m′ : Message) → ms ≡ base ++ new → New new → Owes k
+  wrote : (k : Lone) (ms new : List Message) (ln : Line) (v : ℕ) (vs : Views) (m m′ : Message) → ms ≡ base ++ new → New new → Owes k
       → at cl (m .location) < m .from → m .from < m .to → m′ ≡ sm m
-      → Alone l None (sl k) (sv S) (wide new) ln (went-on (sl k) v (svs vs)) (sv S) (wide new ++ (m′ ∷ []))
-      → Made k S new (went-on k v vs) S (ms ++ (m ∷ []))
-  wrote k S ms new ln v vs m m′ split fresh owes above span e s = (
+      → ((S : View) → Alone l None (sl k) S (wide new) ln (went-on (sl k) v (svs vs)) S (wide new ++ (m′ ∷ [])))
+      → Made k new (went-on k v vs) (ms ++ (m ∷ []))
+  wrote k ms new ln v vs m m′ split fresh owes above span e s = (
       new ++ (m ∷ []),
       ap (λ (xs : List Message). xs ++ (m ∷ [])) split ∙ append-assoc base new (m ∷ []),
       in-push (λ n. (at cl (n .location) < n .from) × (n .from < n .to)) new m fresh (above, span),
       owes,
-      (ln, subst (λ (xs : List Message). Alone l None (sl k) (sv S) (wide new) ln (went-on (sl k) v (svs vs)) (sv S) xs)
-        (ap (λ (n : Message). wide new ++ (n ∷ [])) e ∙ grown new m) s))
+      (ln, λ S. subst (λ (xs : List Message). Alone l None (sl k) S (wide new) ln (went-on (sl k) v (svs vs)) S xs)
+        (ap (λ (n : Message). wide new ++ (n ∷ [])) e ∙ grown new m) (s S)))
 
   step-later : {k k′ : Lone} {S S′ : View} {ms ms′ : List Message} {ln : Line} (new : List Message) → ms ≡ base ++ new → New new → Owes k
-      → Alone l (Some cl) k S ms ln k′ S′ ms′ → Made k S new k′ S′ ms′
-  step-later new split fresh owes (silent e) = (new, split, fresh, owes, (N, silent e))
-  step-later new split fresh owes (acquire-fence e) = (new, split, fresh, owes, (N, acquire-fence e))
-  step-later new split fresh owes (release-fence e n) = (new, split, fresh, owes, (N, release-fence e n))
-  step-later new split fresh owes (both-fence e n) = (new, split, fresh, owes, (N, both-fence e n))
-  step-later {k} {S = S} new split fresh owes (sequential-fence e n) = (
+      → (Owes-nothing k → ⊥) → Alone l (Some cl) k S ms ln k′ S′ ms′ → Made k new k′ ms′
+  step-later new split fresh owes owing (silent e) = (new, split, fresh, owes, (N, λ S. silent e))
+  step-later new split fresh owes owing (acquire-fence e) = (new, split, fresh, owes, (N, λ S. acquire-fence e))
+  step-later new split fresh owes owing (release-fence e n) = absurd (owing n)
+  step-later new split fresh owes owing (both-fence e n) = absurd (owing n)
+  step-later new split fresh owes owing (sequential-fence e n) = absurd (owing n)
+  step-later new split fresh owes owing (print v e n) = absurd (owing n)
+  step-later {k} {ms = ms} new split fresh owes owing (read o m e i le τ) = (
       new, split, fresh, owes,
-      (N, subst (λ (v : View). Alone l None (sl k) (sv S) (wide new) N (went-on (sl k) 0 (all-views v)) v (wide new)) (sym (shift-join low by S (k .views .acq))) (sequential-fence e n)))
-  step-later new split fresh owes (print v e n) = (new, split, fresh, owes, (N, print v e n))
-  step-later {k} {S = S} {ms = ms} new split fresh owes (read o m e i le τ) = (
-      new, split, fresh, owes,
-      (R (sm m .to), subst (λ (vs : Views). Alone l None (sl k) (sv S) (wide new) (R (sm m .to)) (went-on (sl k) (m .value) vs) (sv S) (wide new)) (sym (shift-read low by o (m .location) (m .to) (m .view) (k .views)))
+      (R (sm m .to), λ S. subst (λ (vs : Views). Alone l None (sl k) S (wide new) (R (sm m .to)) (went-on (sl k) (m .value) vs) S (wide new)) (sym (shift-read low by o (m .location) (m .to) (m .view) (k .views)))
         (read o (sm m) e (in-wide ms new m split i) (cur-le k (m .location) (m .to) le) τ)))
-  step-later {k} {S = S} {ms = ms} new split fresh owes (write x v o f t e n less span free up) =
+  step-later {k} {ms = ms} new split fresh owes owing (write x v o f t e n less span free up) =
       let vs = write-views o x t (k .views) in
       let m = written x v f t vs in
       let m′ = written x v (sh x f) (sh x t) (svs vs) in
       let same : m′ ≡ sm m = λ j. record { location = x; from = sh x f; to = sh x t; value = v; view = shift-rel-at low by vs x j } in
-      wrote k S ms new (W (sh x f) (sh x t)) 0 vs m m′ split fresh owes up span same
-        (subst (λ (us : Views). Alone l None (sl k) (sv S) (wide new) (W (sh x f) (sh x t)) (went-on (sl k) 0 us) (sv S) (wide new ++ (written x v (sh x f) (sh x t) us ∷ [])))
+      wrote k ms new (W (sh x f) (sh x t)) 0 vs m m′ split fresh owes up span same
+        (λ S. subst (λ (us : Views). Alone l None (sl k) S (wide new) (W (sh x f) (sh x t)) (went-on (sl k) 0 us) S (wide new ++ (written x v (sh x f) (sh x t) us ∷ [])))
           (sym (shift-write low by o x t (k .views)))
           (write x v o (sh x f) (sh x t) e n (cur-lt k x t less) (later-lt (low x) (by x) f t span) (free-later ms new x f t split fresh up span free) tt))
-  step-later {k} {S = S} {ms = ms} new split fresh owes (update o w m v t e n i le τ span free up) =
+  step-later {k} {ms = ms} new split fresh owes owing (update o w m v t e n i le τ span free up) =
       let x = m .location in
       let us = read-views o x (m .to) (m .view) (k .views) in
       let vs = write-views w x t us in
@@ -328,11 +332,11 @@ module _ (l : ℕ) (cl : View) (base big : List Message) (has : Within base big)
       let same : m′ ≡ sm m₁ = λ j. record { location = x; from = sh x (m .to); to = sh x t; value = v; view = view j } in
       let changed : update-views o w x (sh x (m .to)) (sh x t) (sv (m .view)) (svs (k .views)) ≡ svs vs =
         ap (write-views w x (sh x t)) (sym (shift-read low by o x (m .to) (m .view) (k .views))) ∙ sym (shift-write low by w x t us) in
-      wrote k S ms new (U (sh x (m .to)) (sh x t)) (m .value) vs m₁ m′ split fresh owes up span same
-        (subst (λ (ws : Views). Alone l None (sl k) (sv S) (wide new) (U (sh x (m .to)) (sh x t)) (went-on (sl k) (m .value) ws) (sv S) (wide new ++ (updated-message x v (sh x (m .to)) (sh x t) (sv (m .view)) ws ∷ [])))
+      wrote k ms new (U (sh x (m .to)) (sh x t)) (m .value) vs m₁ m′ split fresh owes up span same
+        (λ S. subst (λ (ws : Views). Alone l None (sl k) S (wide new) (U (sh x (m .to)) (sh x t)) (went-on (sl k) (m .value) ws) S (wide new ++ (updated-message x v (sh x (m .to)) (sh x t) (sv (m .view)) ws ∷ [])))
           changed
           (update o w (sm m) v (sh x t) e n (in-wide ms new m split i) (cur-le k x (m .to) le) τ (later-lt (low x) (by x) (m .to) t span) (free-later ms new x (m .to) t split fresh up span free) tt))
-  step-later {k} {S = S} new split fresh owes (keep m before later e o less) =
+  step-later {k} new split fresh owes owing (keep m before later e o less) =
       let x = m .location in
       let i : In m base = owes m (subst (In m) (sym o) (in-right m before (m ∷ later) (inl refl))) in
       let old : sh x (m .to) ≡ m .to = later-old (low x) (by x) (m .to) (under m i) in
@@ -340,25 +344,25 @@ module _ (l : ℕ) (cl : View) (base big : List Message) (has : Within base big)
         ap (λ (u : ℕ). write-views Relaxed x u (svs (k .views))) (sym old) ∙ sym (shift-write low by Relaxed x (m .to) (k .views)) in
       (new, split, fresh,
        (λ n h. owes n (subst (In n) (sym o) (elim (in-split n before later h) [ inl a ↦ in-left n before (m ∷ later) a | inr b ↦ in-right n before (m ∷ later) (inr b) ]))),
-       (H (m .to), subst (λ (vs : Views). Alone l None (sl k) (sv S) (wide new) (H (m .to)) (record { does = after (k .does) 0; views = vs; owed = before ++ later }) (sv S) (wide new)) views
+       (H (m .to), λ S. subst (λ (vs : Views). Alone l None (sl k) S (wide new) (H (m .to)) (record { does = after (k .does) 0; views = vs; owed = before ++ later }) S (wide new)) views
          (keep m before later e o (subst (λ (u : ℕ). at (sv (k .views .cur)) x < u) old (cur-lt k x (m .to) less)))))
 
   -- all the steps
-  abbrev All-made : Lone → View → Lone → View → List Message → Type 0
-  All-made k S k′ S′ ms′ = (new′ : List Message) × (ms′ ≡ base ++ new′) × New new′ × Owes k′ × Steps l None (sl k) (sv S) big (sl k′) (sv S′) (wide new′)
+  abbrev All-made : Lone → Lone → List Message → Type 0
+  All-made k k′ ms′ = (new′ : List Message) × (ms′ ≡ base ++ new′) × New new′ × Owes k′ × ((S : View) → Steps l None (sl k) S big (sl k′) S (wide new′))
 
-  steps-later : {k : Lone} {S : View} {k′ : Lone} {S′ : View} {ms′ : List Message} → Owes k → Steps l (Some cl) k S base k′ S′ ms′ → All-made k S k′ S′ ms′
-  steps-later {k} {S} owes done = (
+  steps-later : {k : Lone} {S : View} {k′ : Lone} {S′ : View} {ms′ : List Message} → Owes k → Shown l cl k S base k′ S′ ms′ → All-made k k′ ms′
+  steps-later {k} owes start = (
       [], sym (append-nil base), (λ m h. absurd h), owes,
-      subst (λ (xs : List Message). Steps l None (sl k) (sv S) big (sl k) (sv S) xs) (sym (append-nil big)) done)
-  steps-later owes (then rest step) =
+      λ S. subst (λ (xs : List Message). Steps l None (sl k) S big (sl k) S xs) (sym (append-nil big)) done)
+  steps-later owes (more rest owing step) =
       let r = steps-later owes rest in
-      let s = step-later (r .0) (r .1) (r .2) (r .3) step in
-      (s .0, s .1, s .2, s .3, then (r .4) (s .4 .1))
+      let s = step-later (r .0) (r .1) (r .2) (r .3) owing step in
+      (s .0, s .1, s .2, s .3, λ S. then (r .4 S) (s .4 .1 S))
 
-  -- what was shown above the line holds in the memory
-  pub shown : {k k′ : Lone} {S S′ : View} {ms′ : List Message} → Holds k S base → Steps l (Some cl) k S base k′ S′ ms′ → Owes-nothing k′ → Can-keep l k S big
-  shown {k} {k′} {S} {S′} h steps none =
+  -- what was shown above the line can be done in the memory
+  pub shown : {k k′ : Lone} {S S′ : View} {ms′ : List Message} → Holds k S base → Shown l cl k S base k′ S′ ms′ → Owes-nothing k′ → (S₁ : View) → Can-keep l k S₁ big
+  shown {k} {k′} h steps none S₁ =
       let r = steps-later (h .owed) steps in
       let views : svs (k .views) ≡ k .views = λ j. record {
         cur = view-stays low by (k .views .cur) (known-low (k .views .cur) (h .fit .known .cur)) j;
@@ -366,7 +370,4 @@ module _ (l : ℕ) (cl : View) (base big : List Message) (has : Within base big)
         rel = rels-stay low by (k .views .rel) (λ y. known-low (rel-at (k .views) y) (h .fit .known .rel y)) j;
       } in
       let same : sl k ≡ k = λ j. record { does = k .does; views = views j; owed = k .owed } in
-      let S-same : sv S ≡ S = view-stays low by S (known-low S (h .sc)) in
-      (sl k′, sv S′, wide (r .0),
-       subst (λ (a : Lone). Steps l None a S big (sl k′) (sv S′) (wide (r .0))) same (subst (λ (b : View). Steps l None (sl k) b big (sl k′) (sv S′) (wide (r .0))) S-same (r .4)),
-       none)
+      (sl k′, S₁, wide (r .0), subst (λ (a : Lone). Steps l None a S₁ big (sl k′) S₁ (wide (r .0))) same (r .4 S₁), none)

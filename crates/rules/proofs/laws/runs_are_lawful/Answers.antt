@@ -1,7 +1,5 @@
 use Rattle.rules.proofs.laws.runs_are_lawful.Needs as need
-use Rattle.rules.proofs.Accepts.{act-step}
-use Rattle.rules.proofs.Preserved.{step-holds}
-use Rattle.rules.proofs.Shifted.{shown}
+use Rattle.rules.proofs.Sound.{line-sound}
 
 pub returns : need.returns
 returns c = λ h. h
