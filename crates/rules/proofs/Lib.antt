@@ -4,3 +4,4 @@ pub mod Accepts
 pub mod Preserved
 pub mod Shifted
 pub mod Sound
+pub mod Complete

@@ -19,7 +19,7 @@ use Rattle.rules.specs.Threads.{none-owed, marked, owes-at, find-owed-from, fi
 use Rattle.rules.specs.Steps.{Marks}
 use Rattle.rules.specs.Histories.{without}
 use Rattle.rules.specs.Laws.{Apart}
-use Rattle.rules.proofs.Members.{unique}
+use Rattle.rules.proofs.Members.{in-right}
 
 -- no mark is set past the messages
 abbrev pub Bare : List Bool → List Message → Type 0
@@ -221,3 +221,22 @@ marks-same (false ∷ bs) (true ∷ cs) (m ∷ ms) l h g a e =
     absurd (a .0 m (marked-in bs ms m (subst (In m) (sym e) (inl refl))) refl .1 refl)
 marks-same (false ∷ bs) (false ∷ cs) (m ∷ ms) l h g a e =
     ap (λ (k : List Bool). false ∷ k) (marks-same bs cs ms (omega arith) (rest-bare false bs m ms h) (rest-bare false cs m ms g) (a .1) e)
+
+pub apart-marked : (bs : List Bool) (ms : List Message) → Apart ms → Apart (marked bs ms)
+apart-marked [] ms a = tt
+apart-marked (b ∷ bs) [] a = tt
+apart-marked (true ∷ bs) (m ∷ ms) a = (λ n i. a .0 n (marked-in bs ms n i), apart-marked bs ms (a .1))
+apart-marked (false ∷ bs) (m ∷ ms) a = apart-marked bs ms (a .1)
+
+pub without-one : (m : Message) (before later : List Message) → Apart (before ++ (m ∷ later)) → without (m .location) (m .to) (before ++ (m ∷ later)) ≡ before ++ later
+without-one m [] later a =
+    cond-true (ends-at (m .location) (m .to) m) (without (m .location) (m .to) later) (m ∷ without (m .location) (m .to) later) (ends-at-complete (m .location) (m .to) m (refl, refl))
+    ∙ without-none (m .location) (m .to) later (λ n i e. a .0 n i (e .0) .1 (e .1))
+without-one m (b ∷ before) later a =
+    elim (cases-bool (ends-at (m .location) (m .to) b)) [
+      inl h ↦
+        let e = ends-at-sound (m .location) (m .to) b h in
+        absurd (a .0 m (in-right m before (m ∷ later) (inl refl)) (sym (e .0)) .1 (sym (e .1)))
+    | inr h ↦
+        cond-false (ends-at (m .location) (m .to) b) (without (m .location) (m .to) (before ++ (m ∷ later))) (b ∷ without (m .location) (m .to) (before ++ (m ∷ later))) h
+        ∙ ap (λ (k : List Message). b ∷ k) (without-one m before later (a .1)) ]

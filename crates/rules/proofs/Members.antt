@@ -55,22 +55,22 @@ unique (p ∷ ps) a m n (inr i) (inl j) l t =
     absurd (a .0 m i (l ∙ ap (λ (q : Message). q .location) j) .1 (t ∙ ap (λ (q : Message). q .to) j))
 unique (p ∷ ps) a m n (inr i) (inr j) l t = unique ps (a .1) m n i j l t
 
--- a free span stands apart from what is there
-module _ (m : Message) (span : m .from < m .to) where
-  stands-off : (n : Message) → Well-formed n → (Overlaps (m .location) (m .from) (m .to) n → ⊥) → m .location ≡ n .location
-      → (Overlaps (n .location) (n .from) (n .to) m → ⊥) × (m .to ≡ n .to → ⊥)
-  stands-off n w f l = (λ o. f (sym l, o .2, o .1), λ e. ends w e)
-    where
-      ends : Well-formed n → m .to ≡ n .to → ⊥
-      ends (inl i) e = let z : n .to ≡ 0 = ap (λ (q : Message). q .to) i in omega arith
-      ends (inr s) e = f (sym l, omega arith, omega (arith, s .0))
+-- the second neither overlaps the first nor ends where it ends
+abbrev pub Off : Message → Message → Type 0
+Off n m = m .location ≡ n .location → (Overlaps (n .location) (n .from) (n .to) m → ⊥) × (m .to ≡ n .to → ⊥)
 
-  pub apart-push : (ms : List Message) → Apart ms → ((n : Message) → In n ms → Well-formed n) → Free (m .location) (m .from) (m .to) ms → Apart (ms ++ (m ∷ []))
-  apart-push [] a w f = (λ n i. absurd i, tt)
-  apart-push (n ∷ ns) a w f = (rest, apart-push ns (a .1) (λ p i. w p (inr i)) (λ p i. f p (inr i)))
-    where
-      rest : Apart-from n (ns ++ (m ∷ []))
-      rest = in-push (λ p. p .location ≡ n .location → (Overlaps (n .location) (n .from) (n .to) p → ⊥) × (p .to ≡ n .to → ⊥)) ns m (a .0) (stands-off n (w n (inl refl)) (f n (inl refl)))
+pub apart-push : (m : Message) (ms : List Message) → Apart ms → ((n : Message) → In n ms → Off n m) → Apart (ms ++ (m ∷ []))
+apart-push m [] a h = (λ n i. absurd i, tt)
+apart-push m (n ∷ ns) a h = (in-push (Off n) ns m (a .0) (h n (inl refl)), apart-push m ns (a .1) (λ p i. h p (inr i)))
+
+-- a free span stands apart from what is there
+pub free-off : (m : Message) → m .from < m .to → (ms : List Message) → ((n : Message) → In n ms → Well-formed n) → Free (m .location) (m .from) (m .to) ms
+    → (n : Message) → In n ms → Off n m
+free-off m span ms w f n i l = (λ o. f n i (sym l, o .2, o .1), λ e. ends (w n i) e)
+  where
+    ends : Well-formed n → m .to ≡ n .to → ⊥
+    ends (inl z) e = let t : n .to ≡ 0 = ap (λ (q : Message). q .to) z in omega arith
+    ends (inr s) e = f n i (sym l, omega arith, omega (arith, s .0))
 
 pub known-more : (ms xs : List Message) (v : View) → Known ms v → Known (ms ++ xs) v
 known-more ms xs v h x = elim (h x) [ inl z ↦ inl z | inr m ↦ inr (m .0, in-left (m .0) ms xs (m .1), m .2, m .3) ]

@@ -28,7 +28,7 @@ use Rattle.rules.specs.Threads.{within, next-of, reads, rel-at, read-cur, read
 use Rattle.rules.specs.Rules.{written, updated-message, update-views, initial}
 use Rattle.rules.specs.Alone.{Lone, Alone, silent, acquire-fence, release-fence, both-fence, sequential-fence, print, read, write, update, keep}
 use Rattle.rules.specs.Laws.{Well-formed, Apart, Known, Known-views, Ordered}
-use Rattle.rules.proofs.Members.{in-left, in-right, in-last, in-split, in-push, apart-push, known-more}
+use Rattle.rules.proofs.Members.{in-left, in-right, in-last, in-split, in-push, apart-push, free-off, known-more}
 
 -- an action that is there has its location below l
 no-way : {Y : Type 0} → _≡_ {A = ℕ} 0 1 → Y
@@ -38,7 +38,7 @@ pub write-within : (l : ℕ) (a : Action) (x v : ℕ) (o : WriteMode) → within
 write-within l Silent x v o e = no-way (cc)
 write-within l (Read y p) x v o e =
     elim (cases-bool (ltb y l)) [
-      inl b ↦ let s = sym (cond-true (ltb y l) (Read y p) Ended b) ∙ e in no-way (cc)
+      inl b ↦ let s : Read y p ≡ Write x v o = sym (cond-true (ltb y l) (Read y p) Ended b) ∙ e in no-way (cc)
     | inr b ↦ let s = sym (cond-false (ltb y l) (Read y p) Ended b) ∙ e in no-way (cc) ]
 write-within l (Write y w p) x v o e =
     elim (cases-bool (ltb y l)) [
@@ -203,7 +203,7 @@ write-fit ms o x t vs ks h = record {
         let d = at-join (join (rel-at vs x) (single x t)) (join (vs .cur) (single x t)) y in
         omega arith
 
-all-fit : (ms : List Message) (v : View) → Known ms v → Fit ms (all-views v)
+pub all-fit : (ms : List Message) (v : View) → Known ms v → Fit ms (all-views v)
 all-fit ms v h = record {
     known = record { cur = h; acq = h; rel = λ y. rel-all (Known ms) y v h (known-zero ms) };
     ordered = record { rel = λ y. rel-all (λ w. Below w v) y v (below-refl v) (zero-below v); acq = below-refl v };
@@ -254,7 +254,7 @@ pub sane-push : (ms : List Message) (m : Message) → Sane ms → m .location < 
 sane-push ms m h place span end free k = record {
     placed = in-push (λ n. n .location < 8) ms m (h .placed) place;
     formed = in-push Well-formed ms m (h .formed) (inr (span, end));
-    apart = apart-push m span ms (h .apart) (h .formed) free;
+    apart = apart-push m ms (h .apart) (free-off m span ms (h .formed) free);
     known = in-push (λ n. Known (ms ++ (m ∷ [])) (n .view)) ms m (λ n i. known-more ms (m ∷ []) (n .view) (h .known n i)) k;
   }
 
