@@ -5,3 +5,4 @@ pub mod Preserved
 pub mod Shifted
 pub mod Sound
 pub mod Complete
+pub mod Agrees
