@@ -54,7 +54,7 @@ adds-complete p k m room =
       (lt-ltb (length (p .memory)) (p .capacity) (let e = length-push (p .memory) m in omega arith))
 
 -- the message at a place is the one that is found there
-find-complete : (ms : List Message) (m : Message) → Apart ms → In m ms → (j : ℕ) × (find (m .location) (m .to) ms ≡ Some j) × (message-at ms j ≡ m)
+pub find-complete : (ms : List Message) (m : Message) → Apart ms → In m ms → (j : ℕ) × (find (m .location) (m .to) ms ≡ Some j) × (message-at ms j ≡ m)
 find-complete ms m a i = go (find (m .location) (m .to) ms) refl
   where
     go : (o : Option ℕ) → find (m .location) (m .to) ms ≡ o → (j : ℕ) × (find (m .location) (m .to) ms ≡ Some j) × (message-at ms j ≡ m)

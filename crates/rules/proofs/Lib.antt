@@ -6,3 +6,4 @@ pub mod Shifted
 pub mod Sound
 pub mod Complete
 pub mod Agrees
+pub mod Past
