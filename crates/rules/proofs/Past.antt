@@ -28,7 +28,7 @@ use Rattle.rules.specs.Threads.{next-of, marked, none-owed, read-cur, write-vi
 use Rattle.rules.specs.Rules.{Tried, went, refused, message-at, written, updated-message, update-views, promised-message, promise-result, act-result, lifted, act-in, promise-in, begin-in, closing-line, saved, show-in, put-back, end-in, line-result}
 use Rattle.rules.specs.Alone.{Lone, lone, Alone, silent, acquire-fence, release-fence, both-fence, sequential-fence, print, read, write, update, keep}
 use Rattle.rules.specs.Steps.{lone-at}
-use Rattle.rules.specs.Histories.{Event, was-read, was-written, was-updated, was-promised, was-kept, read-event, write-event, replaced, update-of, update-event, keep-event, event, event-in, counted, settled, played, history, messages, without, owes-after, if-this, times, updates, undone-in, undone}
+use Rattle.rules.specs.Histories.{Event, was-read, was-written, was-updated, was-promised, was-kept, read-event, write-event, replaced, update-of, update-event, keep-event, event, Place, nowhere, turn-of, showing-of, shows-at, moves, moved, place-of, event-in, counted, settled, played, placed, history, messages, without, owes-after, if-this, times, updates, undone-in, undone}
 use Rattle.rules.specs.Laws.{Is-in, Distinct, Rising-from, Apart}
 use Rattle.rules.proofs.Members.{in-left, in-last}
 use Rattle.rules.proofs.Marked.{marked-more, marked-promise, apart-marked, without-one}
@@ -273,7 +273,7 @@ when-part : (r : Run) (i : ℕ) (F : Part → Type 0) (B : Run → Type 0) (t : 
 when-part r i F B (went p) h go = go p h
 when-part r i F B (refused e) h go = tt
 
-act-counted : (line : Line) (r : Run) (ph : Phase) → r .phase ≡ ph → Sound-at r ph → When (λ r′. Counted r r′ (event-in line r ph)) (act-in r line ph)
+act-counted : (line : Line) (r : Run) (ph : Phase) → r .phase ≡ ph → Sound-at r ph → When (λ r′. Counted r r′ (event-in (place-of ph) line r)) (act-in r line ph)
 act-counted line r between e h = tt
 act-counted line r (turn i) e h =
     when-part r i (λ p. Acted (r .locations) i None line (part-at r i) p) (λ r′. Counted r r′ (event i line r)) (act-result (r .locations) i None line (part-at r i)) (acting r i None line (h .1))
@@ -288,21 +288,21 @@ act-counted line r (showing i s cl) e h =
           let back : undone (with-part r i p) ≡ undone r = ap (undone-in (with-part r i p)) e ∙ same-back r i p s (h .messages) (h .prints) c ∙ sym (ap (undone-in r) e) in
           same-past r (with-part r i p) (length-set (r .threads) i (p .thread)) refl (ap (λ (q : Run). q .threads) back) (ap (λ (q : Run). q .memory) back)))
 
-begin-counted : (r : Run) (i : ℕ) (ph : Phase) → r .phase ≡ ph → When (λ r′. Counted r r′ (event-in (T i) r ph)) (begin-in r i ph)
+begin-counted : (r : Run) (i : ℕ) (ph : Phase) → r .phase ≡ ph → When (λ r′. Counted r r′ (event-in (place-of ph) (T i) r)) (begin-in r i ph)
 begin-counted r i between e =
     let now : undone r ≡ r = ap (undone-in r) e in
     same-past r (in-phase r (turn i)) refl refl (ap (λ (q : Run). q .threads) (sym now)) (ap (λ (q : Run). q .memory) (sym now))
 begin-counted r i (turn j) e = tt
 begin-counted r i (showing j s cl) e = tt
 
-promise-counted : (r : Run) (x v f t : ℕ) (ph : Phase) → x < r .locations → r .phase ≡ ph → Sound-at r ph → When (λ r′. Counted r r′ (event-in (G x v f t) r ph)) (promise-in r x v f t ph)
+promise-counted : (r : Run) (x v f t : ℕ) (ph : Phase) → x < r .locations → r .phase ≡ ph → Sound-at r ph → When (λ r′. Counted r r′ (event-in (place-of ph) (G x v f t) r)) (promise-in r x v f t ph)
 promise-counted r x v f t between here e h = tt
 promise-counted r x v f t (turn i) here e h =
     when-part r i (Promised r i x v f t) (λ r′. Counted r r′ (event i (G x v f t) r)) (promise-result x v f t (part-at r i)) (promising r i x v f t)
       (λ p a. part-past r i p (was-promised i (promised-message (thread-at r i .views) x v f t) ∷ []) e (h .0) (h .1) (promised-changed r i x v f t p here (h .1) a) (promise-told r i x v f t p (h .1) a))
 promise-counted r x v f t (showing i s cl) here e h = tt
 
-show-counted : (r : Run) (ph : Phase) → r .phase ≡ ph → When (λ r′. Counted r r′ (event-in X r ph)) (show-in r ph)
+show-counted : (r : Run) (ph : Phase) → r .phase ≡ ph → When (λ r′. Counted r r′ (event-in (place-of ph) X r)) (show-in r ph)
 show-counted r between e = tt
 show-counted r (turn i) e =
     let cl = closing-line (r .memory) in
@@ -313,7 +313,7 @@ show-counted r (turn i) e =
       (λ _. same-past r (in-phase r ph) refl refl (ap (λ (q : Run). q .threads) back ∙ ap (λ (q : Run). q .threads) (sym now)) (ap (λ (q : Run). q .memory) back ∙ ap (λ (q : Run). q .memory) (sym now)))
 show-counted r (showing i s cl) e = tt
 
-end-counted : (r : Run) (ph : Phase) → r .phase ≡ ph → When (λ r′. Counted r r′ (event-in E r ph)) (end-in r ph)
+end-counted : (r : Run) (ph : Phase) → r .phase ≡ ph → When (λ r′. Counted r r′ (event-in (place-of ph) E r)) (end-in r ph)
 end-counted r between e = tt
 end-counted r (turn i) e =
     let now : undone r ≡ r = ap (undone-in r) e in
@@ -324,24 +324,79 @@ end-counted r (showing i s cl) e =
     cond-both (none-owed (thread-at r i .owed)) (went (in-phase (put-back r i s) between)) (refused StillOwing) (When (λ r′. Counted r r′ []))
       (λ _. same-past r (in-phase (put-back r i s) between) (length-set (r .threads) i (s .thread)) refl (ap (λ (q : Run). q .threads) (sym now)) (ap (λ (q : Run). q .memory) (sym now))) (λ _. tt)
 
-line-counted : (line : Line) (r : Run) → Sound r → When (λ r′. Counted r r′ (event-in line r (r .phase))) (line-result line r)
+line-counted : (line : Line) (r : Run) → Sound r → When (λ r′. Counted r r′ (event-in (place-of (r .phase)) line r)) (line-result line r)
 line-counted (T i) r h =
-    cond-both (ltb i (length (r .threads))) (begin-in r i (r .phase)) (refused Range) (When (λ r′. Counted r r′ (event-in (T i) r (r .phase))))
+    cond-both (ltb i (length (r .threads))) (begin-in r i (r .phase)) (refused Range) (When (λ r′. Counted r r′ (event-in (place-of (r .phase)) (T i) r)))
       (λ _. begin-counted r i (r .phase) refl) (λ _. tt)
 line-counted N r h = act-counted N r (r .phase) refl h
 line-counted (R t) r h = act-counted (R t) r (r .phase) refl h
 line-counted (W f t) r h = act-counted (W f t) r (r .phase) refl h
 line-counted (U f t) r h = act-counted (U f t) r (r .phase) refl h
 line-counted (G x v f t) r h =
-    cond-both (ltb x (r .locations)) (promise-in r x v f t (r .phase)) (refused Range) (When (λ r′. Counted r r′ (event-in (G x v f t) r (r .phase))))
+    cond-both (ltb x (r .locations)) (promise-in r x v f t (r .phase)) (refused Range) (When (λ r′. Counted r r′ (event-in (place-of (r .phase)) (G x v f t) r)))
       (λ lt. promise-counted r x v f t (r .phase) (ltb-true x (r .locations) lt) refl h) (λ _. tt)
 line-counted (H t) r h = act-counted (H t) r (r .phase) refl h
 line-counted X r h = show-counted r (r .phase) refl
 line-counted E r h = end-counted r (r .phase) refl
 
-settled-counted : (line : Line) (r : Run) (t : Tried Run) → When (λ r′. Counted r r′ (event-in line r (r .phase))) t → Counted r (settled r t) (counted line r t)
-settled-counted line r (went r′) h = h
-settled-counted line r (refused e) h = same-past r r refl refl refl refl
+settled-counted : (a : Place) (line : Line) (r : Run) (t : Tried Run) → place-of (r .phase) ≡ a → When (λ r′. Counted r r′ (event-in (place-of (r .phase)) line r)) t
+    → Counted r (settled r t) (counted a line r t)
+settled-counted a line r (went r′) e h = subst (λ (b : Place). Counted r r′ (event-in b line r)) e h
+settled-counted a line r (refused f) e h = same-past r r refl refl refl refl
+
+-- the phase follows the accepted lines
+abbrev Led : Run → Line → Run → Type 0
+Led r line r′ = place-of (r′ .phase) ≡ moves (place-of (r .phase)) line
+
+lifted-place : (r : Run) (i : ℕ) (a : Place) (t : Tried Part) → place-of (r .phase) ≡ a → When (λ r′. place-of (r′ .phase) ≡ a) (lifted r i t)
+lifted-place r i a (went p) h = h
+lifted-place r i a (refused e) h = tt
+
+act-place : (line : Line) (r : Run) (ph : Phase) → When (λ r′. place-of (r′ .phase) ≡ place-of (r .phase)) (act-in r line ph)
+act-place line r between = tt
+act-place line r (turn i) = lifted-place r i (place-of (r .phase)) (act-result (r .locations) i None line (part-at r i)) refl
+act-place line r (showing i s cl) =
+    cond-both (none-owed (thread-at r i .owed)) (refused Moment) (lifted r i (act-result (r .locations) i (Some cl) line (part-at r i))) (When (λ r′. place-of (r′ .phase) ≡ place-of (r .phase)))
+      (λ _. tt) (λ _. lifted-place r i (place-of (r .phase)) (act-result (r .locations) i (Some cl) line (part-at r i)) refl)
+
+begin-place : (r : Run) (i : ℕ) (ph : Phase) → When (Led r (T i)) (begin-in r i ph)
+begin-place r i between = refl
+begin-place r i (turn j) = tt
+begin-place r i (showing j s cl) = tt
+
+promise-place : (r : Run) (x v f t : ℕ) (ph : Phase) → When (Led r (G x v f t)) (promise-in r x v f t ph)
+promise-place r x v f t between = tt
+promise-place r x v f t (turn i) = lifted-place r i (place-of (r .phase)) (promise-result x v f t (part-at r i)) refl
+promise-place r x v f t (showing i s cl) = tt
+
+show-place : (r : Run) (ph : Phase) → r .phase ≡ ph → When (Led r X) (show-in r ph)
+show-place r between e = tt
+show-place r (turn i) e =
+    cond-both (none-owed (thread-at r i .owed)) (refused Moment) (went (in-phase r (showing i (saved r i) (closing-line (r .memory))))) (When (Led r X))
+      (λ _. tt) (λ _. sym (ap (λ (ph : Phase). shows-at (place-of ph)) e))
+show-place r (showing i s cl) e = tt
+
+end-place : (r : Run) (ph : Phase) → When (Led r E) (end-in r ph)
+end-place r between = tt
+end-place r (turn i) = cond-both (none-owed (thread-at r i .owed)) (went (in-phase r between)) (refused StillOwing) (When (Led r E)) (λ _. refl) (λ _. tt)
+end-place r (showing i s cl) =
+    cond-both (none-owed (thread-at r i .owed)) (went (in-phase (put-back r i s) between)) (refused StillOwing) (When (Led r E)) (λ _. refl) (λ _. tt)
+
+line-place : (line : Line) (r : Run) → When (Led r line) (line-result line r)
+line-place (T i) r = cond-both (ltb i (length (r .threads))) (begin-in r i (r .phase)) (refused Range) (When (Led r (T i))) (λ _. begin-place r i (r .phase)) (λ _. tt)
+line-place N r = act-place N r (r .phase)
+line-place (R t) r = act-place (R t) r (r .phase)
+line-place (W f t) r = act-place (W f t) r (r .phase)
+line-place (U f t) r = act-place (U f t) r (r .phase)
+line-place (G x v f t) r =
+    cond-both (ltb x (r .locations)) (promise-in r x v f t (r .phase)) (refused Range) (When (Led r (G x v f t))) (λ _. promise-place r x v f t (r .phase)) (λ _. tt)
+line-place (H t) r = act-place (H t) r (r .phase)
+line-place X r = show-place r (r .phase) refl
+line-place E r = end-place r (r .phase)
+
+settled-place : (a : Place) (line : Line) (r : Run) (t : Tried Run) → place-of (r .phase) ≡ a → When (Led r line) t → place-of (settled r t .phase) ≡ moved a line t
+settled-place a line r (went r′) e h = h ∙ ap (λ (b : Place). moves b line) e
+settled-place a line r (refused f) e h = e
 
 pub settled-sound : (r : Run) (t : Tried Run) → When Sound t → Sound r → Sound (settled r t)
 settled-sound r (went r′) h s = h
@@ -433,8 +488,8 @@ past-on r r₁ r₂ es fs c b = record {
     lower t lo hi [] le h = omega arith
     lower t lo hi (u ∷ ts) le h = (omega (arith, h .0), h .1)
 
-pub past : (r : Run) (lines : List Line) → Sound r → Past r (played r lines) (history r lines)
-past r [] h = record {
+pub past : (a : Place) (r : Run) (lines : List Line) → place-of (r .phase) ≡ a → Sound r → Past r (played r lines) (history a r lines)
+past a r [] e h = record {
     threads = refl;
     locations = refl;
     memory = sym (append-nil (undone r .memory));
@@ -443,12 +498,18 @@ past r [] h = record {
     fresh = λ p i. absurd i;
     distinct = tt;
   }
-past r (line ∷ lines) h =
+past a r (line ∷ lines) e h =
     let t = line-result line r in
     let r₁ = settled r t in
-    past-on r r₁ (played r₁ lines) (counted line r t) (history r₁ lines) (settled-counted line r t (line-counted line r h))
-      (past r₁ lines (settled-sound r t (line-sound line r h) h))
+    past-on r r₁ (played r₁ lines) (counted a line r t) (history (moved a line t) r₁ lines) (settled-counted a line r t e (line-counted line r h))
+      (past (moved a line t) r₁ lines (settled-place a line r t e (line-place line r)) (settled-sound r t (line-sound line r h) h))
 
 pub played-sound : (r : Run) (lines : List Line) → Sound r → Sound (played r lines)
 played-sound r [] h = h
 played-sound r (line ∷ lines) h = played-sound (settled r (line-result line r)) lines (settled-sound r (line-result line r) (line-sound line r h) h)
+
+pub played-place : (a : Place) (r : Run) (lines : List Line) → place-of (r .phase) ≡ a → place-of (played r lines .phase) ≡ placed a r lines
+played-place a r [] e = e
+played-place a r (line ∷ lines) e =
+    let t = line-result line r in
+    played-place (moved a line t) (settled r t) lines (settled-place a line r t e (line-place line r))
