@@ -123,56 +123,56 @@ module _ (l i : ℕ) (closing : Option View) (p : Part) (marks : Marks (p .threa
       → When (To line) (adds p (goes-on k v vs) m)
   grows line v vs m e s =
       cond-both (ltb (length ms) (p .capacity))
-        (went (record { thread = goes-on k v vs; memory = ms ++ (m ∷ []); capacity = p .capacity; sc = p .sc; log = p .log }))
-        (refused (Store Full)) (When (To line))
-        (λ less. record {
-          step = subst (λ (os : List Message). Alone l closing (lone k ms) (p .sc) ms line (record { does = after (k .does) v; views = vs; owed = os }) (p .sc) (ms ++ (m ∷ [])))
+      (went (record { thread = goes-on k v vs; memory = ms ++ (m ∷ []); capacity = p .capacity; sc = p .sc; log = p .log }))
+      (refused (Store Full)) (When (To line))
+      (λ less. record {
+        step = subst (λ (os : List Message). Alone l closing (lone k ms) (p .sc) ms line (record { does = after (k .does) v; views = vs; owed = os }) (p .sc) (ms ++ (m ∷ [])))
             (sym (marked-more (k .owed) ms (m ∷ []) (marks .1))) s;
-          marks = (marks .0, bare-more (k .owed) ms (m ∷ []) (marks .1));
-          capacity = refl;
-          room = let a = ltb-true (length ms) (p .capacity) less in let b = length-push ms m in omega arith;
-          log = same-log e;
-          prints = prints;
-        })
-        (λ _. tt)
+        marks = (marks .0, bare-more (k .owed) ms (m ∷ []) (marks .1));
+        capacity = refl;
+        room = let a = ltb-true (length ms) (p .capacity) less in let b = length-push ms m in omega arith;
+        log = same-log e;
+        prints = prints;
+      })
+      (λ _. tt)
 
   fence-step : (o : FenceKind) → next-of l (k .does) ≡ Fence o → When (To N) (fence-result p o)
   fence-step Acquire-fence e = stays N (goes-on k 0 (acquire-views (k .views))) (ap (printed i) e) marks (acquire-fence e)
   fence-step Release-fence e =
       cond-both (none-owed (k .owed)) (went (with-thread p (goes-on k 0 (release-views (k .views))))) (refused Owing) (When (To N))
-        (λ o. stays N (goes-on k 0 (release-views (k .views))) (ap (printed i) e) marks (release-fence e (nothing (k .owed) ms o))) (λ _. tt)
+      (λ o. stays N (goes-on k 0 (release-views (k .views))) (ap (printed i) e) marks (release-fence e (nothing (k .owed) ms o))) (λ _. tt)
   fence-step Both e =
       cond-both (none-owed (k .owed)) (went (with-thread p (goes-on k 0 (both-views (k .views))))) (refused Owing) (When (To N))
-        (λ o. stays N (goes-on k 0 (both-views (k .views))) (ap (printed i) e) marks (both-fence e (nothing (k .owed) ms o))) (λ _. tt)
+      (λ o. stays N (goes-on k 0 (both-views (k .views))) (ap (printed i) e) marks (both-fence e (nothing (k .owed) ms o))) (λ _. tt)
   fence-step Sequential e =
       cond-both (none-owed (k .owed))
-        (went (record { thread = goes-on k 0 (all-views (join (p .sc) (k .views .acq))); memory = ms; capacity = p .capacity; sc = join (p .sc) (k .views .acq); log = p .log }))
-        (refused Owing) (When (To N))
-        (λ o. record {
-          step = sequential-fence e (nothing (k .owed) ms o);
-          marks = marks;
-          capacity = refl;
-          room = room;
-          log = same-log (ap (printed i) e);
-          prints = prints;
-        })
-        (λ _. tt)
+      (went (record { thread = goes-on k 0 (all-views (join (p .sc) (k .views .acq))); memory = ms; capacity = p .capacity; sc = join (p .sc) (k .views .acq); log = p .log }))
+      (refused Owing) (When (To N))
+      (λ o. record {
+        step = sequential-fence e (nothing (k .owed) ms o);
+        marks = marks;
+        capacity = refl;
+        room = room;
+        log = same-log (ap (printed i) e);
+        prints = prints;
+      })
+      (λ _. tt)
 
   print-step : (v : ℕ) → next-of l (k .does) ≡ Print v → When (To N) (print-result i p v)
   print-step v e =
       let p′ : Part = record { thread = goes-on k 0 (k .views); memory = ms; capacity = p .capacity; sc = p .sc; log = p .log ++ ((i, v) ∷ []) } in
       cond-both (none-owed (k .owed)) (cond (ltb (length (p .log)) 64) (went p′) (refused LogFull)) (refused Owing) (When (To N))
-        (λ o. cond-both (ltb (length (p .log)) 64) (went p′) (refused LogFull) (When (To N))
-          (λ less. record {
-            step = print v e (nothing (k .owed) ms o);
-            marks = marks;
-            capacity = refl;
-            room = room;
-            log = ap (λ (a : Action). p .log ++ printed i a) (sym e);
-            prints = let a = ltb-true (length (p .log)) 64 less in let b = length-push (p .log) (i, v) in omega arith;
-          })
-          (λ _. tt))
-        (λ _. tt)
+      (λ o. cond-both (ltb (length (p .log)) 64) (went p′) (refused LogFull) (When (To N))
+      (λ less. record {
+        step = print v e (nothing (k .owed) ms o);
+        marks = marks;
+        capacity = refl;
+        room = room;
+        log = ap (λ (a : Action). p .log ++ printed i a) (sym e);
+        prints = let a = ltb-true (length (p .log)) 64 less in let b = length-push (p .log) (i, v) in omega arith;
+      })
+      (λ _. tt))
+      (λ _. tt)
 
   next-step : (a : Action) → next-of l (k .does) ≡ a → When (To N) (next-at i p a)
   next-step Silent e = stays N (goes-on k 0 (k .views)) (ap (printed i) e) marks (silent e)
@@ -188,10 +188,10 @@ module _ (l i : ℕ) (closing : Option View) (p : Part) (marks : Marks (p .threa
   read-taken o x t m e h ends le NotTaken τ = tt
   read-taken o x t m e h ends le OnlyRead τ =
       stays (R t) (goes-on k (m .value) (read-views o x t (m .view) (k .views))) (reads-print i (next-of l (k .does)) (x, o) e) marks
-        (subst (λ (y : ℕ). reads (next-of l (k .does)) ≡ Some (y, o) → at (k .views .cur) y ≤ t → Alone l closing (lone k ms) (p .sc) ms (R t) (went-on (lone k ms) (m .value) (read-views o y t (m .view) (k .views))) (p .sc) ms) (ends .0)
-          (subst (λ (u : ℕ). reads (next-of l (k .does)) ≡ Some (m .location, o) → at (k .views .cur) (m .location) ≤ u → Alone l closing (lone k ms) (p .sc) ms (R u) (went-on (lone k ms) (m .value) (read-views o (m .location) u (m .view) (k .views))) (p .sc) ms) (ends .1)
-            (λ d s. read o m d h s τ))
-          e le)
+      (subst (λ (y : ℕ). reads (next-of l (k .does)) ≡ Some (y, o) → at (k .views .cur) y ≤ t → Alone l closing (lone k ms) (p .sc) ms (R t) (went-on (lone k ms) (m .value) (read-views o y t (m .view) (k .views))) (p .sc) ms) (ends .0)
+      (subst (λ (u : ℕ). reads (next-of l (k .does)) ≡ Some (m .location, o) → at (k .views .cur) (m .location) ≤ u → Alone l closing (lone k ms) (p .sc) ms (R u) (went-on (lone k ms) (m .value) (read-views o (m .location) u (m .view) (k .views))) (p .sc) ms) (ends .1)
+      (λ d s. read o m d h s τ))
+      e le)
   read-taken o x t m e h ends le (Replaced v) τ = tt
 
   read-step-at : (o : ReadMode) (x t : ℕ) → reads (next-of l (k .does)) ≡ Some (x, o) → (r : Option ℕ) → find x t ms ≡ r → When (To (R t)) (read-found p o x t r)
@@ -200,7 +200,7 @@ module _ (l i : ℕ) (closing : Option View) (p : Part) (marks : Marks (p .threa
       let m = message-at ms j in
       let at-j = found-at x t ms j f in
       cond-both (leb (at (k .views .cur) x) t) (read-taking p o x t m (k .does [] .takes (m .value))) (refused TooNew) (When (To (R t)))
-        (λ le. read-taken o x t m e (at-j .1) (at-j .2) (leb-true (at (k .views .cur) x) t le) (k .does [] .takes (m .value)) refl) (λ _. tt)
+      (λ le. read-taken o x t m e (at-j .1) (at-j .2) (leb-true (at (k .views .cur) x) t le) (k .does [] .takes (m .value)) refl) (λ _. tt)
 
   read-step : (t : ℕ) (r : Option (ℕ × ReadMode)) → reads (next-of l (k .does)) ≡ r → When (To (R t)) (read-at p t r)
   read-step t None e = tt
@@ -216,12 +216,12 @@ module _ (l i : ℕ) (closing : Option View) (p : Part) (marks : Marks (p .threa
   write-step f t (Write x v o) e =
       let vs = write-views o x t (k .views) in
       unless-when (To (W f t)) (write-refusal closing x o f t p) (adds p (goes-on k 0 vs) (written x v f t vs))
-        (λ none.
-          let a = missed (release-owes o x p) Owing (cond (ltb (at (k .views .cur) x) t) (span-refusal closing x f t ms) (Some TooNew)) none in
-          let b = passed (ltb (at (k .views .cur) x) t) TooNew (span-refusal closing x f t ms) (a .1) in
-          let c = span-sound closing x f t ms (b .1) in
-          grows (W f t) 0 vs (written x v f t vs) (ap (printed i) e)
-            (write x v o f t e (release-free o x (a .0)) (ltb-true (at (k .views .cur) x) t (b .0)) (c .0) (c .1) (c .2)))
+      (λ none.
+      let a = missed (release-owes o x p) Owing (cond (ltb (at (k .views .cur) x) t) (span-refusal closing x f t ms) (Some TooNew)) none in
+      let b = passed (ltb (at (k .views .cur) x) t) TooNew (span-refusal closing x f t ms) (a .1) in
+      let c = span-sound closing x f t ms (b .1) in
+      grows (W f t) 0 vs (written x v f t vs) (ap (printed i) e)
+      (write x v o f t e (release-free o x (a .0)) (ltb-true (at (k .views .cur) x) t (b .0)) (c .0) (c .1) (c .2)))
   write-step f t (Update x o w) e = tt
   write-step f t (Fence o) e = tt
   write-step f t (Print v) e = tt
@@ -235,13 +235,13 @@ module _ (l i : ℕ) (closing : Option View) (p : Part) (marks : Marks (p .threa
   update-taken o w x f t m e free h ends le (Replaced v) τ =
       let vs = update-views o w x f t (m .view) (k .views) in
       let Made : ℕ → ℕ → Type 0 = λ y g.
-        next-of l (k .does) ≡ Update y o w → (w ≡ Release → Owes-nothing-at y (lone k ms)) → at (k .views .cur) y ≤ g → (g < t) × Free y g t ms × Above closing y g
-        → Alone l closing (lone k ms) (p .sc) ms (U g t) (went-on (lone k ms) (m .value) (update-views o w y g t (m .view) (k .views))) (p .sc)
-            (ms ++ (updated-message y v g t (m .view) (update-views o w y g t (m .view) (k .views)) ∷ [])) in
+      next-of l (k .does) ≡ Update y o w → (w ≡ Release → Owes-nothing-at y (lone k ms)) → at (k .views .cur) y ≤ g → (g < t) × Free y g t ms × Above closing y g
+      → Alone l closing (lone k ms) (p .sc) ms (U g t) (went-on (lone k ms) (m .value) (update-views o w y g t (m .view) (k .views))) (p .sc)
+      (ms ++ (updated-message y v g t (m .view) (update-views o w y g t (m .view) (k .views)) ∷ [])) in
       let make : Made (m .location) (m .to) = λ d r s c. update o w m v t d r h s τ (c .0) (c .1) (c .2) in
       unless-when (To (U f t)) (span-refusal closing x f t ms) (adds p (goes-on k (m .value) vs) (updated-message x v f t (m .view) vs))
-        (λ none. grows (U f t) (m .value) vs (updated-message x v f t (m .view) vs) (ap (printed i) e)
-          (subst (λ (y : ℕ). Made y f) (ends .0) (subst (λ (g : ℕ). Made (m .location) g) (ends .1) make) e (release-free w x free) le (span-sound closing x f t ms none)))
+      (λ none. grows (U f t) (m .value) vs (updated-message x v f t (m .view) vs) (ap (printed i) e)
+      (subst (λ (y : ℕ). Made y f) (ends .0) (subst (λ (g : ℕ). Made (m .location) g) (ends .1) make) e (release-free w x free) le (span-sound closing x f t ms none)))
 
   update-step-at : (o : ReadMode) (w : WriteMode) (x f t : ℕ) → next-of l (k .does) ≡ Update x o w → release-owes w x p ≡ false
       → (r : Option ℕ) → find x f ms ≡ r → When (To (U f t)) (update-found closing p o w x f t r)
@@ -250,7 +250,7 @@ module _ (l i : ℕ) (closing : Option View) (p : Part) (marks : Marks (p .threa
       let m = message-at ms j in
       let at-j = found-at x f ms j g in
       cond-both (leb (at (k .views .cur) x) f) (update-taking closing p o w x f t m (k .does [] .takes (m .value))) (refused TooNew) (When (To (U f t)))
-        (λ le. update-taken o w x f t m e free (at-j .1) (at-j .2) (leb-true (at (k .views .cur) x) f le) (k .does [] .takes (m .value)) refl) (λ _. tt)
+      (λ le. update-taken o w x f t m e free (at-j .1) (at-j .2) (leb-true (at (k .views .cur) x) f le) (k .does [] .takes (m .value)) refl) (λ _. tt)
 
   update-step : (f t : ℕ) (a : Action) → next-of l (k .does) ≡ a → When (To (U f t)) (update-at closing p f t a)
   update-step f t Silent e = tt
@@ -258,7 +258,7 @@ module _ (l i : ℕ) (closing : Option View) (p : Part) (marks : Marks (p .threa
   update-step f t (Write x v o) e = tt
   update-step f t (Update x o w) e =
       cond-both (release-owes w x p) (refused Owing) (update-found closing p o w x f t (find x f ms)) (When (To (U f t)))
-        (λ _. tt) (λ free. update-step-at o w x f t e free (find x f ms) refl)
+      (λ _. tt) (λ free. update-step-at o w x f t e free (find x f ms) refl)
   update-step f t (Fence o) e = tt
   update-step f t (Print v) e = tt
   update-step f t Ended e = tt
@@ -271,17 +271,17 @@ module _ (l i : ℕ) (closing : Option View) (p : Part) (marks : Marks (p .threa
       let split = marked-split (k .owed) ms j (at-j .0) (at-j .1) in
       let there : Tried Part = went (with-thread p (keeps k j x t)) in
       let Made : ℕ → ℕ → Type 0 = λ y u.
-        next-of l (k .does) ≡ Write y (m .value) Relaxed → at (k .views .cur) y < u
-        → Alone l closing (lone k ms) (p .sc) ms (H u) (kept (lone k ms) y u (split .0 ++ split .1)) (p .sc) ms in
+      next-of l (k .does) ≡ Write y (m .value) Relaxed → at (k .views .cur) y < u
+      → Alone l closing (lone k ms) (p .sc) ms (H u) (kept (lone k ms) y u (split .0 ++ split .1)) (p .sc) ms in
       let make : Made (m .location) (m .to) = λ d s. keep m (split .0) (split .1) d (split .2) s in
       cond-both (ltb (at (k .views .cur) x) t) (cond (eqb (m .value) v) there (refused Value)) (refused TooNew) (When (To (H t)))
-        (λ less. cond-both (eqb (m .value) v) there (refused Value) (When (To (H t)))
-          (λ same. stays (H t) (keeps k j x t) (ap (printed i) e) (marks-keep (k .owed) ms j marks)
-            (subst (λ (os : List Message). Alone l closing (lone k ms) (p .sc) ms (H t) (kept (lone k ms) x t os) (p .sc) ms) (sym (split .3))
-              (subst (λ (y : ℕ). Made y t) (at-j .2 .0) (subst (λ (u : ℕ). Made (m .location) u) (at-j .2 .1) make)
-                (e ∙ ap (λ (u : ℕ). Write x u Relaxed) (sym (eqb-true (m .value) v same))) (ltb-true (at (k .views .cur) x) t less))))
-          (λ _. tt))
-        (λ _. tt)
+      (λ less. cond-both (eqb (m .value) v) there (refused Value) (When (To (H t)))
+      (λ same. stays (H t) (keeps k j x t) (ap (printed i) e) (marks-keep (k .owed) ms j marks)
+      (subst (λ (os : List Message). Alone l closing (lone k ms) (p .sc) ms (H t) (kept (lone k ms) x t os) (p .sc) ms) (sym (split .3))
+      (subst (λ (y : ℕ). Made y t) (at-j .2 .0) (subst (λ (u : ℕ). Made (m .location) u) (at-j .2 .1) make)
+      (e ∙ ap (λ (u : ℕ). Write x u Relaxed) (sym (eqb-true (m .value) v same))) (ltb-true (at (k .views .cur) x) t less))))
+      (λ _. tt))
+      (λ _. tt)
 
   keep-step : (t : ℕ) (a : Action) → next-of l (k .does) ≡ a → When (To (H t)) (keep-at p t a)
   keep-step t Silent e = tt

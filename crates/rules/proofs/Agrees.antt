@@ -49,7 +49,7 @@ module _ (r : Run) (g : Good r) where
   acted-step : (i : ℕ) (closing : Option View) (line : Line) → Acting r i closing → When (Step r line) (lifted r i (act-result (r .locations) i closing line (part-at r i)))
   acted-step i closing line act =
       lifted-steps i (λ p. Acted (r .locations) i closing line (part-at r i) p) line (act-result (r .locations) i closing line (part-at r i)) (acting r i closing line g)
-        (λ p a. done p a)
+      (λ p a. done p a)
     where
       done : (p : Part) → Acted (r .locations) i closing line (part-at r i) p → Step r line (with-part r i p)
       done p a =
@@ -57,14 +57,14 @@ module _ (r : Run) (g : Good r) where
           let q : Part = record { thread = p .thread; memory = p .memory; capacity = r .capacity; sc = p .sc; log = r .log ++ said } in
           let same : q ≡ p = λ j. record { thread = p .thread; memory = p .memory; capacity = sym (a .capacity) j; sc = p .sc; log = sym (a .log) j } in
           subst (λ (q : Part). Step r line (with-part r i q)) same
-            (acts i closing (p .thread) (p .sc) (p .memory) act (a .step) (a .marks) (a .room) (let e = ap length (a .log) in let n = a .prints in omega arith))
+          (acts i closing (p .thread) (p .sc) (p .memory) act (a .step) (a .marks) (a .room) (let e = ap length (a .log) in let n = a .prints in omega arith))
 
   act-steps : (line : Line) (ph : Phase) → r .phase ≡ ph → When (Step r line) (act-in r line ph)
   act-steps line between e = tt
   act-steps line (turn i) e = acted-step i None line (in-turn i e)
   act-steps line (showing i s cl) e =
       cond-both (none-owed (thread-at r i .owed)) (refused Moment) (lifted r i (act-result (r .locations) i (Some cl) line (part-at r i))) (When (Step r line))
-        (λ _. tt) (λ owing. acted-step i (Some cl) line (in-showing i s cl e (something (thread-at r i .owed) (r .memory) (g .marks i .1) owing)))
+      (λ _. tt) (λ owing. acted-step i (Some cl) line (in-showing i s cl e (something (thread-at r i .owed) (r .memory) (g .marks i .1) owing)))
 
   begin-steps : (i : ℕ) (ph : Phase) → i < length (r .threads) → r .phase ≡ ph → When (Step r (T i)) (begin-in r i ph)
   begin-steps i between lt e = begins i lt e
@@ -75,36 +75,36 @@ module _ (r : Run) (g : Good r) where
   promise-steps x v f t between lt e = tt
   promise-steps x v f t (turn i) lt e =
       lifted-steps i (Promised r i x v f t) (G x v f t) (promise-result x v f t (part-at r i)) (promising r i x v f t)
-        (λ p a. subst (λ (q : Part). Step r (G x v f t) (with-part r i q)) (sym (a .is)) (promises i x v f t e lt (a .new) (a .span) (a .free) (a .room)))
+      (λ p a. subst (λ (q : Part). Step r (G x v f t) (with-part r i q)) (sym (a .is)) (promises i x v f t e lt (a .new) (a .span) (a .free) (a .room)))
   promise-steps x v f t (showing i s cl) lt e = tt
 
   show-steps : (ph : Phase) → r .phase ≡ ph → When (Step r X) (show-in r ph)
   show-steps between e = tt
   show-steps (turn i) e =
       cond-both (none-owed (thread-at r i .owed)) (refused Moment) (went (in-phase r (showing i (saved r i) (closing-line (r .memory))))) (When (Step r X))
-        (λ _. tt) (λ owing. shows i e (something (thread-at r i .owed) (r .memory) (g .marks i .1) owing))
+      (λ _. tt) (λ owing. shows i e (something (thread-at r i .owed) (r .memory) (g .marks i .1) owing))
   show-steps (showing i s cl) e = tt
 
   end-steps : (ph : Phase) → r .phase ≡ ph → When (Step r E) (end-in r ph)
   end-steps between e = tt
   end-steps (turn i) e =
       cond-both (none-owed (thread-at r i .owed)) (went (in-phase r between)) (refused StillOwing) (When (Step r E))
-        (λ o. ends-turn i e (nothing (thread-at r i .owed) (r .memory) o)) (λ _. tt)
+      (λ o. ends-turn i e (nothing (thread-at r i .owed) (r .memory) o)) (λ _. tt)
   end-steps (showing i s cl) e =
       cond-both (none-owed (thread-at r i .owed)) (went (in-phase (put-back r i s) between)) (refused StillOwing) (When (Step r E))
-        (λ o. ends-showing i s cl e (nothing (thread-at r i .owed) (r .memory) o)) (λ _. tt)
+      (λ o. ends-showing i s cl e (nothing (thread-at r i .owed) (r .memory) o)) (λ _. tt)
 
   pub line-steps : (line : Line) → When (Step r line) (line-result line r)
   line-steps (T i) =
       cond-both (ltb i (length (r .threads))) (begin-in r i (r .phase)) (refused Range) (When (Step r (T i)))
-        (λ lt. begin-steps i (r .phase) (ltb-true i (length (r .threads)) lt) refl) (λ _. tt)
+      (λ lt. begin-steps i (r .phase) (ltb-true i (length (r .threads)) lt) refl) (λ _. tt)
   line-steps N = act-steps N (r .phase) refl
   line-steps (R t) = act-steps (R t) (r .phase) refl
   line-steps (W f t) = act-steps (W f t) (r .phase) refl
   line-steps (U f t) = act-steps (U f t) (r .phase) refl
   line-steps (G x v f t) =
       cond-both (ltb x (r .locations)) (promise-in r x v f t (r .phase)) (refused Range) (When (Step r (G x v f t)))
-        (λ lt. promise-steps x v f t (r .phase) (ltb-true x (r .locations) lt) refl) (λ _. tt)
+      (λ lt. promise-steps x v f t (r .phase) (ltb-true x (r .locations) lt) refl) (λ _. tt)
   line-steps (H t) = act-steps (H t) (r .phase) refl
   line-steps X = show-steps (r .phase) refl
   line-steps E = end-steps (r .phase) refl
@@ -163,12 +163,12 @@ module _ (r : Run) (g : Good r) where
 
   promise-accepted : (i x v f t : ℕ) → at (thread-at r i .views .cur) x < t → f < t → Free x f t (r .memory) → length (r .memory) < r .capacity
       → promise-result x v f t (part-at r i) ≡ went (record {
-          thread = owing (thread-at r i) (length (r .memory));
-          memory = r .memory ++ (promised-message (thread-at r i .views) x v f t ∷ []);
-          capacity = r .capacity;
-          sc = r .sc;
-          log = r .log;
-        })
+        thread = owing (thread-at r i) (length (r .memory));
+        memory = r .memory ++ (promised-message (thread-at r i .views) x v f t ∷ []);
+        capacity = r .capacity;
+        sc = r .sc;
+        log = r .log;
+      })
   promise-accepted i x v f t less span free room =
       let k = owing (thread-at r i) (length (r .memory)) in
       let m = promised-message (thread-at r i .views) x v f t in

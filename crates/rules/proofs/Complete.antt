@@ -43,15 +43,15 @@ above-complete (Some line) x f h = lt-ltb (at line x) f h
 pub span-complete : (closing : Option View) (x f t : ℕ) (ms : List Message) → f < t → Free x f t ms → Above closing x f → span-refusal closing x f t ms ≡ None
 span-complete closing x f t ms span free up =
     cond-true (ltb f t && is-free x f t ms) (cond (above closing x f) None (Some ClosingLine)) (Some Span)
-      (and-from (ltb f t) (is-free x f t ms) (lt-ltb f t span) (is-free-complete x f t ms free))
+    (and-from (ltb f t) (is-free x f t ms) (lt-ltb f t span) (is-free-complete x f t ms free))
     ∙ cond-true (above closing x f) None (Some ClosingLine) (above-complete closing x f up)
 
 pub adds-complete : (p : Part) (k : Thread) (m : Message) → length (p .memory ++ (m ∷ [])) ≤ p .capacity
     → adds p k m ≡ went (record { thread = k; memory = p .memory ++ (m ∷ []); capacity = p .capacity; sc = p .sc; log = p .log })
 adds-complete p k m room =
     cond-true (ltb (length (p .memory)) (p .capacity))
-      (went (record { thread = k; memory = p .memory ++ (m ∷ []); capacity = p .capacity; sc = p .sc; log = p .log })) (refused (Store Full))
-      (lt-ltb (length (p .memory)) (p .capacity) (let e = length-push (p .memory) m in omega arith))
+    (went (record { thread = k; memory = p .memory ++ (m ∷ []); capacity = p .capacity; sc = p .sc; log = p .log })) (refused (Store Full))
+    (lt-ltb (length (p .memory)) (p .capacity) (let e = length-push (p .memory) m in omega arith))
 
 -- the message at a place is the one that is found there
 pub find-complete : (ms : List Message) (m : Message) → Apart ms → In m ms → (j : ℕ) × (find (m .location) (m .to) ms ≡ Some j) × (message-at ms j ≡ m)
@@ -94,11 +94,13 @@ module _ (l i : ℕ) (closing : Option View) (p : Part) (marks : Marks (p .threa
           → (j : ℕ) × (find-owed (m .location) (m .to) (k .owed) ms ≡ Some j) × (message-at ms j ≡ m) × (marked (set (k .owed) j false) ms ≡ before ++ later)
       go None e = absurd (find-owed-none (m .location) (m .to) (k .owed) ms e m here (refl, refl))
       go (Some j) e =
-          let f = find-owed-some (m .location) (m .to) (k .owed) ms j e in
-          (j, e,
-           unique ms apart (message-at ms j) m (in-at ms j zero-message (f .0)) (marked-in (k .owed) ms m here) (f .2 .0) (f .2 .1),
-           marked-without (m .location) (m .to) (k .owed) ms j apart (f .0) (f .1) (f .2)
-           ∙ ap (without-of m) o ∙ without-one m before later (subst Apart o (apart-marked (k .owed) ms apart)))
+          let f = find-owed-some (m .location) (m .to) (k .owed) ms j e in (
+            j,
+            e,
+            unique ms apart (message-at ms j) m (in-at ms j zero-message (f .0)) (marked-in (k .owed) ms m here) (f .2 .0) (f .2 .1),
+            marked-without (m .location) (m .to) (k .owed) ms j apart (f .0) (f .1) (f .2)
+                ∙ ap (without-of m) o ∙ without-one m before later (subst Apart o (apart-marked (k .owed) ms apart)),
+          )
         where
           without-of : Message → List Message → List Message
           without-of n = Rattle.rules.specs.Histories.without (n .location) (n .to)
@@ -119,33 +121,42 @@ module _ (l i : ℕ) (closing : Option View) (p : Part) (marks : Marks (p .threa
       (p′, ap (next-at i p) e ∙ cond-true (none-owed (k .owed)) (went p′) (refused Owing) (owes n), refl, refl, refl)
   complete (print v e n) room prints =
       let p′ : Part = record { thread = goes-on k 0 (k .views); memory = ms; capacity = p .capacity; sc = p .sc; log = p .log ++ ((i, v) ∷ []) } in
-      let more : length (p .log ++ ((i, v) ∷ [])) ≤ 64 = subst (λ (a : Action). length (p .log ++ printed i a) ≤ 64) e prints in
-      (p′,
-       ap (next-at i p) e ∙ cond-true (none-owed (k .owed)) (cond (ltb (length (p .log)) 64) (went p′) (refused LogFull)) (refused Owing) (owes n)
-       ∙ cond-true (ltb (length (p .log)) 64) (went p′) (refused LogFull) (lt-ltb (length (p .log)) 64 (let q = length-push (p .log) (i, v) in omega arith)),
-       refl, refl, refl)
+      let more : length (p .log ++ ((i, v) ∷ [])) ≤ 64 = subst (λ (a : Action). length (p .log ++ printed i a) ≤ 64) e prints in (
+        p′,
+        ap (next-at i p) e ∙ cond-true (none-owed (k .owed)) (cond (ltb (length (p .log)) 64) (went p′) (refused LogFull)) (refused Owing) (owes n)
+            ∙ cond-true (ltb (length (p .log)) 64) (went p′) (refused LogFull) (lt-ltb (length (p .log)) 64 (let q = length-push (p .log) (i, v) in omega arith)),
+        refl,
+        refl,
+        refl,
+      )
   complete (read o m e h le τ) room prints =
       let x = m .location in
       let t = m .to in
       let p′ = with-thread p (goes-on k (m .value) (read-views o x t (m .view) (k .views))) in
       let f = find-complete ms m apart h in
-      let n = message-at ms (f .0) in
-      (p′,
-       ap (read-at p t) e ∙ ap (read-found p o x t) (f .1)
-       ∙ cond-true (leb (at (k .views .cur) x) t) (read-taking p o x t n (k .does [] .takes (n .value))) (refused TooNew) (le-leb (at (k .views .cur) x) t le)
-       ∙ ap (λ (q : Message). read-taking p o x t q (k .does [] .takes (q .value))) (f .2) ∙ ap (read-taking p o x t m) τ,
-       refl, refl, refl)
+      let n = message-at ms (f .0) in (
+        p′,
+        ap (read-at p t) e ∙ ap (read-found p o x t) (f .1)
+            ∙ cond-true (leb (at (k .views .cur) x) t) (read-taking p o x t n (k .does [] .takes (n .value))) (refused TooNew) (le-leb (at (k .views .cur) x) t le)
+            ∙ ap (λ (q : Message). read-taking p o x t q (k .does [] .takes (q .value))) (f .2) ∙ ap (read-taking p o x t m) τ,
+        refl,
+        refl,
+        refl,
+      )
   complete (write x v o f t e n less span free up) room prints =
       let vs = write-views o x t (k .views) in
       let m = written x v f t vs in
       let there = adds p (goes-on k 0 vs) m in
       let none : write-refusal closing x o f t p ≡ None =
-        cond-false (release-owes o x p) (Some Owing) (cond (ltb (at (k .views .cur) x) t) (span-refusal closing x f t ms) (Some TooNew)) (no-release o x n)
-        ∙ cond-true (ltb (at (k .views .cur) x) t) (span-refusal closing x f t ms) (Some TooNew) (lt-ltb (at (k .views .cur) x) t less)
-        ∙ span-complete closing x f t ms span free up in
-      (record { thread = goes-on k 0 vs; memory = ms ++ (m ∷ []); capacity = p .capacity; sc = p .sc; log = p .log },
-       ap (write-at closing p f t) e ∙ ap (λ (q : Option StepFault). unless q there) none ∙ adds-complete p (goes-on k 0 vs) m room,
-       grown 0 vs m, refl, refl)
+      cond-false (release-owes o x p) (Some Owing) (cond (ltb (at (k .views .cur) x) t) (span-refusal closing x f t ms) (Some TooNew)) (no-release o x n)
+      ∙ cond-true (ltb (at (k .views .cur) x) t) (span-refusal closing x f t ms) (Some TooNew) (lt-ltb (at (k .views .cur) x) t less)
+      ∙ span-complete closing x f t ms span free up in (
+        record { thread = goes-on k 0 vs; memory = ms ++ (m ∷ []); capacity = p .capacity; sc = p .sc; log = p .log },
+        ap (write-at closing p f t) e ∙ ap (λ (q : Option StepFault). unless q there) none ∙ adds-complete p (goes-on k 0 vs) m room,
+        grown 0 vs m,
+        refl,
+        refl,
+      )
   complete (update o w m v t e n h le τ span free up) room prints =
       let x = m .location in
       let f = m .to in
@@ -153,22 +164,28 @@ module _ (l i : ℕ) (closing : Option View) (p : Part) (marks : Marks (p .threa
       let m′ = updated-message x v f t (m .view) vs in
       let there = adds p (goes-on k (m .value) vs) m′ in
       let g = find-complete ms m apart h in
-      let q = message-at ms (g .0) in
-      (record { thread = goes-on k (m .value) vs; memory = ms ++ (m′ ∷ []); capacity = p .capacity; sc = p .sc; log = p .log },
-       ap (update-at closing p f t) e ∙ cond-false (release-owes w x p) (refused Owing) (update-found closing p o w x f t (find x f ms)) (no-release w x n)
-       ∙ ap (update-found closing p o w x f t) (g .1)
-       ∙ cond-true (leb (at (k .views .cur) x) f) (update-taking closing p o w x f t q (k .does [] .takes (q .value))) (refused TooNew) (le-leb (at (k .views .cur) x) f le)
-       ∙ ap (λ (a : Message). update-taking closing p o w x f t a (k .does [] .takes (a .value))) (g .2) ∙ ap (update-taking closing p o w x f t m) τ
-       ∙ ap (λ (a : Option StepFault). unless a there) (span-complete closing x f t ms span free up) ∙ adds-complete p (goes-on k (m .value) vs) m′ room,
-       grown (m .value) vs m′, refl, refl)
+      let q = message-at ms (g .0) in (
+        record { thread = goes-on k (m .value) vs; memory = ms ++ (m′ ∷ []); capacity = p .capacity; sc = p .sc; log = p .log },
+        ap (update-at closing p f t) e ∙ cond-false (release-owes w x p) (refused Owing) (update-found closing p o w x f t (find x f ms)) (no-release w x n)
+            ∙ ap (update-found closing p o w x f t) (g .1)
+            ∙ cond-true (leb (at (k .views .cur) x) f) (update-taking closing p o w x f t q (k .does [] .takes (q .value))) (refused TooNew) (le-leb (at (k .views .cur) x) f le)
+            ∙ ap (λ (a : Message). update-taking closing p o w x f t a (k .does [] .takes (a .value))) (g .2) ∙ ap (update-taking closing p o w x f t m) τ
+            ∙ ap (λ (a : Option StepFault). unless a there) (span-complete closing x f t ms span free up) ∙ adds-complete p (goes-on k (m .value) vs) m′ room,
+        grown (m .value) vs m′,
+        refl,
+        refl,
+      )
   complete (keep m before later e o less) room prints =
       let x = m .location in
       let t = m .to in
       let f = promise-found m before later o in
       let p′ = with-thread p (keeps k (f .0) x t) in
-      let q = message-at ms (f .0) in
-      (p′,
-       ap (keep-at p t) e ∙ ap (keep-found p x (m .value) t) (f .1)
-       ∙ cond-true (ltb (at (k .views .cur) x) t) (cond (eqb (q .value) (m .value)) (went p′) (refused Value)) (refused TooNew) (lt-ltb (at (k .views .cur) x) t less)
-       ∙ cond-true (eqb (q .value) (m .value)) (went p′) (refused Value) (eq-eqb (q .value) (m .value) (ap (λ (a : Message). a .value) (f .2))),
-       (λ j. record { does = after (k .does) 0; views = write-views Relaxed x t (k .views); owed = f .3 j }), refl, refl)
+      let q = message-at ms (f .0) in (
+        p′,
+        ap (keep-at p t) e ∙ ap (keep-found p x (m .value) t) (f .1)
+            ∙ cond-true (ltb (at (k .views .cur) x) t) (cond (eqb (q .value) (m .value)) (went p′) (refused Value)) (refused TooNew) (lt-ltb (at (k .views .cur) x) t less)
+            ∙ cond-true (eqb (q .value) (m .value)) (went p′) (refused Value) (eq-eqb (q .value) (m .value) (ap (λ (a : Message). a .value) (f .2))),
+        (λ j. record { does = after (k .does) 0; views = write-views Relaxed x t (k .views); owed = f .3 j }),
+        refl,
+        refl,
+      )

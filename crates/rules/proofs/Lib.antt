@@ -7,3 +7,4 @@ pub mod Sound
 pub mod Complete
 pub mod Agrees
 pub mod Past
+pub mod Lawfulness

@@ -64,15 +64,17 @@ marked-promise (true ∷ bs) (n ∷ ns) m l h = ap (λ (r : List Message). n ∷
 marked-promise (false ∷ bs) (n ∷ ns) m l h = marked-promise bs ns m (omega arith) (rest-bare false bs n ns h)
 
 pub marks-promise : (bs : List Bool) (ms : List Message) (m : Message) → Marks bs ms → Marks (set bs (length ms) true) (ms ++ (m ∷ []))
-marks-promise bs ms m h =
-    (length-set bs (length ms) true ∙ h .0,
-     λ j l. getD-set-other bs (length ms) j true false (let e = length-push ms m in omega arith) ∙ h .1 j (let e = length-push ms m in omega arith))
+marks-promise bs ms m h = (
+  length-set bs (length ms) true ∙ h .0,
+  λ j l. getD-set-other bs (length ms) j true false (let e = length-push ms m in omega arith) ∙ h .1 j (let e = length-push ms m in omega arith),
+)
 
 -- the mark of a promise that is kept
 pub marks-keep : (bs : List Bool) (ms : List Message) (i : ℕ) → Marks bs ms → Marks (set bs i false) ms
-marks-keep bs ms i h =
-    (length-set bs i false ∙ h .0,
-     λ j l. elim (cases-eq j i) [ inl e ↦ cleared j e (h .1 j l) | inr ne ↦ getD-set-other bs i j false false ne ∙ h .1 j l ])
+marks-keep bs ms i h = (
+  length-set bs i false ∙ h .0,
+  λ j l. elim (cases-eq j i) [ inl e ↦ cleared j e (h .1 j l) | inr ne ↦ getD-set-other bs i j false false ne ∙ h .1 j l ],
+)
   where
     clear : (cs : List Bool) (j : ℕ) → getD (set cs j false) j false ≡ false
     clear [] j = refl
@@ -98,8 +100,9 @@ pub without-none : (x t : ℕ) (ns : List Message) → ((n : Message) → In n n
 without-none x t [] h = refl
 without-none x t (n ∷ ns) h =
     elim (cases-bool (ends-at x t n)) [
-      inl b ↦ absurd (h n (inl refl) (ends-at-sound x t n b))
-    | inr b ↦ cond-false (ends-at x t n) (without x t ns) (n ∷ without x t ns) b ∙ ap (λ (k : List Message). n ∷ k) (without-none x t ns (λ p i. h p (inr i))) ]
+      | inl b ↦ absurd (h n (inl refl) (ends-at-sound x t n b))
+      | inr b ↦ cond-false (ends-at x t n) (without x t ns) (n ∷ without x t ns) b ∙ ap (λ (k : List Message). n ∷ k) (without-none x t ns (λ p i. h p (inr i)))
+    ]
 
 -- clearing the mark of the message of x that ends at t leaves the others
 pub marked-without : (x t : ℕ) (bs : List Bool) (ms : List Message) (j : ℕ) → Apart ms → j < length ms → getD bs j false ≡ true → Ends-at x t (getD ms j zero-message)
@@ -108,17 +111,18 @@ marked-without x t [] ms j a l h e = absurd (true≢false (sym h))
 marked-without x t (b ∷ bs) [] j a l h e = absurd (omega arith)
 marked-without x t (true ∷ bs) (m ∷ ms) zero a l h e =
     sym (cond-true (ends-at x t m) (without x t (marked bs ms)) (m ∷ without x t (marked bs ms)) (ends-at-complete x t m e)
-      ∙ without-none x t (marked bs ms) (λ n i f. a .0 n (marked-in bs ms n i) (f .0 ∙ sym (e .0)) .1 (f .1 ∙ sym (e .1))))
+    ∙ without-none x t (marked bs ms) (λ n i f. a .0 n (marked-in bs ms n i) (f .0 ∙ sym (e .0)) .1 (f .1 ∙ sym (e .1))))
 marked-without x t (false ∷ bs) (m ∷ ms) zero a l h e = absurd (true≢false (sym h))
 marked-without x t (true ∷ bs) (m ∷ ms) (suc j) a l h e =
     elim (cases-bool (ends-at x t m)) [
-      inl b ↦
-        let n : Message = getD ms j zero-message in
-        let f = ends-at-sound x t m b in
-        absurd (a .0 n (in-at ms j zero-message (omega arith)) (e .0 ∙ sym (f .0)) .1 (e .1 ∙ sym (f .1)))
-    | inr b ↦
-        ap (λ (k : List Message). m ∷ k) (marked-without x t bs ms j (a .1) (omega arith) h e)
-        ∙ sym (cond-false (ends-at x t m) (without x t (marked bs ms)) (m ∷ without x t (marked bs ms)) b) ]
+      | inl b ↦
+          let n : Message = getD ms j zero-message in
+          let f = ends-at-sound x t m b in
+          absurd (a .0 n (in-at ms j zero-message (omega arith)) (e .0 ∙ sym (f .0)) .1 (e .1 ∙ sym (f .1)))
+      | inr b ↦
+          ap (λ (k : List Message). m ∷ k) (marked-without x t bs ms j (a .1) (omega arith) h e)
+          ∙ sym (cond-false (ends-at x t m) (without x t (marked bs ms)) (m ∷ without x t (marked bs ms)) b)
+    ]
 marked-without x t (false ∷ bs) (m ∷ ms) (suc j) a l h e = marked-without x t bs ms j (a .1) (omega arith) h e
 
 -- whether anything is owed
@@ -173,15 +177,16 @@ find-owed-from-some k x t [] ms j e = absurd (none-some j e)
 find-owed-from-some k x t (b ∷ bs) [] j e = absurd (none-some j e)
 find-owed-from-some k x t (b ∷ bs) (m ∷ ms) j e =
     elim (cases-bool (b && ends-at x t m)) [
-      inl h ↦
-        let s : Some k ≡ Some j = sym (cond-true (b && ends-at x t m) (Some k) (find-owed-from (k + 1) x t bs ms) h) ∙ e in
-        let same : k ≡ j = cc in
-        let p = and-parts b (ends-at x t m) h in
-        (0, omega arith, (omega arith, p .0, ends-at-sound x t m (p .1)))
-    | inr h ↦
-        let r = find-owed-from-some (k + 1) x t bs ms j (sym (cond-false (b && ends-at x t m) (Some k) (find-owed-from (k + 1) x t bs ms) h) ∙ e) in
-        let q = r .2 in
-        (suc (r .0), omega arith, (omega arith, q .1, q .2)) ]
+      | inl h ↦
+          let s : Some k ≡ Some j = sym (cond-true (b && ends-at x t m) (Some k) (find-owed-from (k + 1) x t bs ms) h) ∙ e in
+          let same : k ≡ j = cc in
+          let p = and-parts b (ends-at x t m) h in
+          (0, omega arith, (omega arith, p .0, ends-at-sound x t m (p .1)))
+      | inr h ↦
+          let r = find-owed-from-some (k + 1) x t bs ms j (sym (cond-false (b && ends-at x t m) (Some k) (find-owed-from (k + 1) x t bs ms) h) ∙ e) in
+          let q = r .2 in
+          (suc (r .0), omega arith, (omega arith, q .1, q .2))
+    ]
 
 pub find-owed-some : (x t : ℕ) (bs : List Bool) (ms : List Message) (j : ℕ) → find-owed x t bs ms ≡ Some j → Owed-at x t bs ms j
 find-owed-some x t bs ms j e =
@@ -196,8 +201,9 @@ find-owed-from-none k x t (true ∷ bs) (n ∷ ns) e m (inl i) h =
     none-some k (sym e ∙ cond-true (ends-at x t n) (Some k) (find-owed-from (k + 1) x t bs ns) (ends-at-complete x t n (subst (Ends-at x t) i h)))
 find-owed-from-none k x t (true ∷ bs) (n ∷ ns) e m (inr i) h =
     elim (cases-bool (ends-at x t n)) [
-      inl b ↦ none-some k (sym e ∙ cond-true (ends-at x t n) (Some k) (find-owed-from (k + 1) x t bs ns) b)
-    | inr b ↦ find-owed-from-none (k + 1) x t bs ns (sym (cond-false (ends-at x t n) (Some k) (find-owed-from (k + 1) x t bs ns) b) ∙ e) m i h ]
+      | inl b ↦ none-some k (sym e ∙ cond-true (ends-at x t n) (Some k) (find-owed-from (k + 1) x t bs ns) b)
+      | inr b ↦ find-owed-from-none (k + 1) x t bs ns (sym (cond-false (ends-at x t n) (Some k) (find-owed-from (k + 1) x t bs ns) b) ∙ e) m i h
+    ]
 find-owed-from-none k x t (false ∷ bs) (n ∷ ns) e m i h = find-owed-from-none (k + 1) x t bs ns e m i h
 
 pub find-owed-none : (x t : ℕ) (bs : List Bool) (ms : List Message) → find-owed x t bs ms ≡ None → (m : Message) → In m (marked bs ms) → Ends-at x t m → ⊥
@@ -234,9 +240,10 @@ without-one m [] later a =
     ∙ without-none (m .location) (m .to) later (λ n i e. a .0 n i (e .0) .1 (e .1))
 without-one m (b ∷ before) later a =
     elim (cases-bool (ends-at (m .location) (m .to) b)) [
-      inl h ↦
-        let e = ends-at-sound (m .location) (m .to) b h in
-        absurd (a .0 m (in-right m before (m ∷ later) (inl refl)) (sym (e .0)) .1 (sym (e .1)))
-    | inr h ↦
-        cond-false (ends-at (m .location) (m .to) b) (without (m .location) (m .to) (before ++ (m ∷ later))) (b ∷ without (m .location) (m .to) (before ++ (m ∷ later))) h
-        ∙ ap (λ (k : List Message). b ∷ k) (without-one m before later (a .1)) ]
+      | inl h ↦
+          let e = ends-at-sound (m .location) (m .to) b h in
+          absurd (a .0 m (in-right m before (m ∷ later) (inl refl)) (sym (e .0)) .1 (sym (e .1)))
+      | inr h ↦
+          cond-false (ends-at (m .location) (m .to) b) (without (m .location) (m .to) (before ++ (m ∷ later))) (b ∷ without (m .location) (m .to) (before ++ (m ∷ later))) h
+          ∙ ap (λ (k : List Message). b ∷ k) (without-one m before later (a .1))
+    ]

@@ -60,7 +60,7 @@ record Told (i : ℕ) (k : Lone) (M : List Message) (k′ : Lone) (M′ : List M
 this-rises : (i x y : ℕ) (ts : List ℕ) (lo hi : ℕ) → lo ≤ hi → (y ≡ x → Rises lo ts hi) → Rises lo (if-this i x i y ts ++ []) hi
 this-rises i x y ts lo hi le h =
     cond-both (eqb i i && eqb y x) ts [] (λ us. Rises lo (us ++ []) hi)
-      (λ e. subst (λ (us : List ℕ). Rises lo us hi) (sym (append-nil ts)) (h (eqb-true y x (and-parts (eqb i i) (eqb y x) e .1)))) (λ _. le)
+    (λ e. subst (λ (us : List ℕ). Rises lo us hi) (sym (append-nil ts)) (h (eqb-true y x (and-parts (eqb i i) (eqb y x) e .1)))) (λ _. le)
 
 not-this : (i j x y : ℕ) (ts : List ℕ) → (i ≡ j → ⊥) → if-this j x i y ts ++ [] ≡ []
 not-this i j x y ts ne = ap (λ (b : Bool). cond (b && eqb y x) ts [] ++ []) (ne-eqb i j ne)
@@ -101,14 +101,14 @@ module _ (i : ℕ) (r : Run) (g : Good r) where
   -- nothing of note
   quiet : (k′ : Lone) → k′ .owed ≡ lk .owed → ((x : ℕ) → at (k .views .cur) x ≤ at (k′ .views .cur) x) → Told i lk M k′ M []
   quiet k′ e up = record {
-      memory = sym (append-nil M);
-      owed = e;
-      others = λ j ne ms. refl;
-      risen = up;
-      still = λ j ne x. refl;
-      fresh = λ p h. absurd h;
-      one = tt;
-    }
+    memory = sym (append-nil M);
+    owed = e;
+    others = λ j ne ms. refl;
+    risen = up;
+    still = λ j ne x. refl;
+    fresh = λ p h. absurd h;
+    one = tt;
+  }
 
   told : {closing : Option View} {line : Line} {k′ : Lone} {S′ : View} {M′ : List Message} → Alone l closing lk (r .sc) M line k′ S′ M′
       → (es : List Event) × (event i line r ≡ es) × Told i lk M k′ M′ es
@@ -123,31 +123,37 @@ module _ (i : ℕ) (r : Run) (g : Good r) where
       let x = m .location in
       let t = m .to in
       let lt : x < l = reads-within l (k .does [] .next) x o e in
-      let few = g .few in
-      (was-read i x t ∷ [], ap (read-event i t) e, record {
-        memory = sym (append-nil M);
-        owed = refl;
-        others = λ j ne ms. refl;
-        risen = λ y. this-rises i y x (t ∷ []) (at (k .views .cur) y) (at (read-cur o x t (m .view) (k .views .cur)) y) (read-more o x t (m .view) (k .views .cur) y)
-          (λ q. subst (λ (z : ℕ). (at (k .views .cur) z ≤ t) × (t ≤ at (read-cur o x t (m .view) (k .views .cur)) z)) q (le, read-end o x t (m .view) (k .views .cur) (omega arith)));
-        still = λ j ne y. not-this i j y x (t ∷ []) ne;
-        fresh = λ p h. absurd h;
-        one = tt;
-      })
+      let few = g .few in (
+        was-read i x t ∷ [],
+        ap (read-event i t) e,
+        record {
+          memory = sym (append-nil M);
+          owed = refl;
+          others = λ j ne ms. refl;
+          risen = λ y. this-rises i y x (t ∷ []) (at (k .views .cur) y) (at (read-cur o x t (m .view) (k .views .cur)) y) (read-more o x t (m .view) (k .views .cur) y)
+              (λ q. subst (λ (z : ℕ). (at (k .views .cur) z ≤ t) × (t ≤ at (read-cur o x t (m .view) (k .views .cur)) z)) q (le, read-end o x t (m .view) (k .views .cur) (omega arith)));
+          still = λ j ne y. not-this i j y x (t ∷ []) ne;
+          fresh = λ p h. absurd h;
+          one = tt;
+        },
+      )
   told {k′ = k′} (write x v o f t e n less span free up) =
       let m = written x v f t (write-views o x t (k .views)) in
       let lt : x < l = write-within l (k .does [] .next) x v o e in
-      let few = g .few in
-      (was-written i m ∷ [], ap (write-event i k f t) e, record {
-        memory = refl;
-        owed = refl;
-        others = λ j ne ms. refl;
-        risen = λ y. this-rises i y x (t ∷ []) (at (k .views .cur) y) (at (join (k .views .cur) (single x t)) y) (join-more (k .views .cur) (single x t) y)
-          (λ q. subst (λ (z : ℕ). (at (k .views .cur) z ≤ t) × (t ≤ at (join (k .views .cur) (single x t)) z)) q (omega arith, single-end (k .views .cur) x t (omega arith)));
-        still = λ j ne y. not-this i j y x (t ∷ []) ne;
-        fresh = λ p h. absurd h;
-        one = tt;
-      })
+      let few = g .few in (
+        was-written i m ∷ [],
+        ap (write-event i k f t) e,
+        record {
+          memory = refl;
+          owed = refl;
+          others = λ j ne ms. refl;
+          risen = λ y. this-rises i y x (t ∷ []) (at (k .views .cur) y) (at (join (k .views .cur) (single x t)) y) (join-more (k .views .cur) (single x t) y)
+              (λ q. subst (λ (z : ℕ). (at (k .views .cur) z ≤ t) × (t ≤ at (join (k .views .cur) (single x t)) z)) q (omega arith, single-end (k .views .cur) x t (omega arith)));
+          still = λ j ne y. not-this i j y x (t ∷ []) ne;
+          fresh = λ p h. absurd h;
+          one = tt;
+        },
+      )
   told {k′ = k′} (update o w m v t e n h le τ span free up) =
       let x = m .location in
       let f = m .to in
@@ -158,20 +164,21 @@ module _ (i : ℕ) (r : Run) (g : Good r) where
       let c = read-cur o x f (m .view) (k .views .cur) in
       let fc = find-complete M m (g .sane .apart) h in
       let by-message : Message → List Event = λ q. was-updated i f (updated-message x (replaced (k .does [] .takes (q .value))) f t (q .view) (update-views o w x f t (q .view) (k .views))) ∷ [] in
-      let by-taking : Taking → List Event = λ a. was-updated i f (updated-message x (replaced a) f t (m .view) vs) ∷ [] in
-      (was-updated i f m′ ∷ [],
-       ap (update-event i k f t M) e ∙ ap (update-of i k x o w f t M) (fc .1) ∙ ap by-message (fc .2) ∙ ap by-taking τ,
-       record {
-        memory = refl;
-        owed = refl;
-        others = λ j ne ms. refl;
-        risen = λ y. this-rises i y x (f ∷ t ∷ []) (at (k .views .cur) y) (at (join c (single x t)) y)
-          (let a = read-more o x f (m .view) (k .views .cur) y in let b = join-more c (single x t) y in omega arith)
-          (λ q. subst (λ (z : ℕ). (at (k .views .cur) z ≤ f) × ((f ≤ t) × (t ≤ at (join c (single x t)) z))) q (le, (omega arith, single-end c x t (omega arith))));
-        still = λ j ne y. not-this i j y x (f ∷ t ∷ []) ne;
-        fresh = λ p q. once p q;
-        one = (λ z. z, tt);
-      })
+      let by-taking : Taking → List Event = λ a. was-updated i f (updated-message x (replaced a) f t (m .view) vs) ∷ [] in (
+        was-updated i f m′ ∷ [],
+        ap (update-event i k f t M) e ∙ ap (update-of i k x o w f t M) (fc .1) ∙ ap by-message (fc .2) ∙ ap by-taking τ,
+        record {
+          memory = refl;
+          owed = refl;
+          others = λ j ne ms. refl;
+          risen = λ y. this-rises i y x (f ∷ t ∷ []) (at (k .views .cur) y) (at (join c (single x t)) y)
+              (let a = read-more o x f (m .view) (k .views .cur) y in let b = join-more c (single x t) y in omega arith)
+              (λ q. subst (λ (z : ℕ). (at (k .views .cur) z ≤ f) × ((f ≤ t) × (t ≤ at (join c (single x t)) z))) q (le, (omega arith, single-end c x t (omega arith))));
+          still = λ j ne y. not-this i j y x (f ∷ t ∷ []) ne;
+          fresh = λ p q. once p q;
+          one = (λ z. z, tt);
+        },
+      )
     where
       once : (p : ℕ × ℕ) → Is-in p ((m .location, m .to) ∷ [])
           → (Taken M p → ⊥) × Taken (M ++ (updated-message (m .location) v (m .to) t (m .view) (update-views o w (m .location) (m .to) t (m .view) (k .views)) ∷ [])) p
@@ -185,17 +192,20 @@ module _ (i : ℕ) (r : Run) (g : Good r) where
       let x = m .location in
       let t = m .to in
       let lt : x < l = write-within l (k .does [] .next) x (m .value) _ e in
-      let few = g .few in
-      (was-kept i x t ∷ [], ap (keep-event i t) e, record {
-        memory = sym (append-nil M);
-        owed = sym (kept-own i (without x t (lk .owed)) (lk .owed) ∙ ap (without x t) o ∙ without-one m before later (subst Apart o (apart-marked (k .owed) M (g .sane .apart))));
-        others = λ j ne ms. kept-other i j (without x t ms) ms ne;
-        risen = λ y. this-rises i y x (t ∷ []) (at (k .views .cur) y) (at (join (k .views .cur) (single x t)) y) (join-more (k .views .cur) (single x t) y)
-          (λ q. subst (λ (z : ℕ). (at (k .views .cur) z ≤ t) × (t ≤ at (join (k .views .cur) (single x t)) z)) q (omega arith, single-end (k .views .cur) x t (omega arith)));
-        still = λ j ne y. not-this i j y x (t ∷ []) ne;
-        fresh = λ p h. absurd h;
-        one = tt;
-      })
+      let few = g .few in (
+        was-kept i x t ∷ [],
+        ap (keep-event i t) e,
+        record {
+          memory = sym (append-nil M);
+          owed = sym (kept-own i (without x t (lk .owed)) (lk .owed) ∙ ap (without x t) o ∙ without-one m before later (subst Apart o (apart-marked (k .owed) M (g .sane .apart))));
+          others = λ j ne ms. kept-other i j (without x t ms) ms ne;
+          risen = λ y. this-rises i y x (t ∷ []) (at (k .views .cur) y) (at (join (k .views .cur) (single x t)) y) (join-more (k .views .cur) (single x t) y)
+              (λ q. subst (λ (z : ℕ). (at (k .views .cur) z ≤ t) × (t ≤ at (join (k .views .cur) (single x t)) z)) q (omega arith, single-end (k .views .cur) x t (omega arith)));
+          still = λ j ne y. not-this i j y x (t ∷ []) ne;
+          fresh = λ p h. absurd h;
+          one = tt;
+        },
+      )
 
 -- what the events of one line say of the run
 record Counted (r r′ : Run) (es : List Event) : Type 0 where
@@ -210,14 +220,14 @@ record Counted (r r′ : Run) (es : List Event) : Type 0 where
 -- a line after which what counts is as it was
 same-past : (r r′ : Run) → length (r′ .threads) ≡ length (r .threads) → r′ .locations ≡ r .locations → undone r′ .threads ≡ undone r .threads → undone r′ .memory ≡ undone r .memory → Counted r r′ []
 same-past r r′ n el et em = record {
-    threads = n;
-    locations = el;
-    memory = em ∙ sym (append-nil (undone r .memory));
-    owed = λ j. ap (λ (ks : List Thread). marked (getD ks j nobody .owed) (undone r′ .memory)) et ∙ ap (marked (thread-at (undone r) j .owed)) em;
-    risen = λ j x. let e : at (getD (undone r′ .threads) j nobody .views .cur) x ≡ at (getD (undone r .threads) j nobody .views .cur) x = ap (λ (ks : List Thread). at (getD ks j nobody .views .cur) x) et in omega arith;
-    fresh = λ p h. absurd h;
-    one = tt;
-  }
+  threads = n;
+  locations = el;
+  memory = em ∙ sym (append-nil (undone r .memory));
+  owed = λ j. ap (λ (ks : List Thread). marked (getD ks j nobody .owed) (undone r′ .memory)) et ∙ ap (marked (thread-at (undone r) j .owed)) em;
+  risen = λ j x. let e : at (getD (undone r′ .threads) j nobody .views .cur) x ≡ at (getD (undone r .threads) j nobody .views .cur) x = ap (λ (ks : List Thread). at (getD ks j nobody .views .cur) x) et in omega arith;
+  fresh = λ p h. absurd h;
+  one = tt;
+}
 
 -- a counted line of thread i
 part-past : (r : Run) (i : ℕ) (p : Part) (es : List Event) → r .phase ≡ turn i → i < length (r .threads) → Good r → Changed r i p
@@ -231,10 +241,10 @@ part-past r i p es e lt g c t =
       memory = ap (λ (q : Run). q .memory) after ∙ t .memory ∙ ap (λ (q : Run). q .memory ++ messages es) (sym now);
       owed = λ j. ap (λ (q : Run). lone-at q j .owed) after ∙ owes j ∙ ap (λ (q : Run). owes-after j (lone-at q j .owed) es) (sym now);
       risen = λ j x.
-        subst (λ (q : Run). Rises (at (thread-at q j .views .cur) x) (times j x es) (at (thread-at (undone (with-part r i p)) j .views .cur) x)) (sym now)
+          subst (λ (q : Run). Rises (at (thread-at q j .views .cur) x) (times j x es) (at (thread-at (undone (with-part r i p)) j .views .cur) x)) (sym now)
           (subst (λ (q : Run). Rises (at (thread-at r j .views .cur) x) (times j x es) (at (thread-at q j .views .cur) x)) (sym after) (rises j x));
       fresh = λ q h.
-        subst (λ (a : Run). (Taken (a .memory) q → ⊥) × Taken (undone (with-part r i p) .memory) q) (sym now)
+          subst (λ (a : Run). (Taken (a .memory) q → ⊥) × Taken (undone (with-part r i p) .memory) q) (sym now)
           (subst (λ (a : Run). (Taken (r .memory) q → ⊥) × Taken (a .memory) q) (sym after) (t .fresh q h));
       one = t .one;
     }
@@ -242,14 +252,14 @@ part-past r i p es e lt g c t =
     owes : (j : ℕ) → lone-at (with-part r i p) j .owed ≡ owes-after j (lone-at r j .owed) es
     owes j =
         at-set (r .threads) i j (p .thread) (λ y. marked (y .owed) (p .memory) ≡ owes-after j (lone-at r j .owed) es) lt
-          (λ q. t .owed ∙ ap (λ (n : ℕ). owes-after n (lone-at r n .owed) es) (sym q))
-          (λ ne. ap (marked (thread-at r j .owed)) (c .memory) ∙ marked-more (thread-at r j .owed) (r .memory) (c .more) (g .marks j .1) ∙ sym (t .others j (λ q. ne (sym q)) (lone-at r j .owed)))
+        (λ q. t .owed ∙ ap (λ (n : ℕ). owes-after n (lone-at r n .owed) es) (sym q))
+        (λ ne. ap (marked (thread-at r j .owed)) (c .memory) ∙ marked-more (thread-at r j .owed) (r .memory) (c .more) (g .marks j .1) ∙ sym (t .others j (λ q. ne (sym q)) (lone-at r j .owed)))
 
     rises : (j x : ℕ) → Rises (at (thread-at r j .views .cur) x) (times j x es) (at (thread-at (with-part r i p) j .views .cur) x)
     rises j x =
         at-set (r .threads) i j (p .thread) (λ y. Rises (at (thread-at r j .views .cur) x) (times j x es) (at (y .views .cur) x)) lt
-          (λ q. subst (λ (n : ℕ). Rises (at (thread-at r n .views .cur) x) (times n x es) (at (p .thread .views .cur) x)) (sym q) (t .risen x))
-          (λ ne. subst (λ (ts : List ℕ). Rises (at (thread-at r j .views .cur) x) ts (at (thread-at r j .views .cur) x)) (sym (t .still j (λ q. ne (sym q)) x)) (omega arith))
+        (λ q. subst (λ (n : ℕ). Rises (at (thread-at r n .views .cur) x) (times n x es) (at (p .thread .views .cur) x)) (sym q) (t .risen x))
+        (λ ne. subst (λ (ts : List ℕ). Rises (at (thread-at r j .views .cur) x) ts (at (thread-at r j .views .cur) x)) (sym (t .still j (λ q. ne (sym q)) x)) (omega arith))
 
 promise-told : (r : Run) (i x v f t : ℕ) (p : Part) → Good r → Promised r i x v f t p
     → Told i (lone-at r i) (r .memory) (lone (p .thread) (p .memory)) (p .memory) (was-promised i (promised-message (thread-at r i .views) x v f t) ∷ [])
@@ -257,17 +267,17 @@ promise-told r i x v f t p g a =
     let k = thread-at r i in
     let m = promised-message (k .views) x v f t in
     subst (λ (q : Part). Told i (lone-at r i) (r .memory) (lone (q .thread) (q .memory)) (q .memory) (was-promised i m ∷ [])) (sym (a .is))
-      (record {
-        memory = refl;
-        owed =
+    (record {
+      memory = refl;
+      owed =
           marked-promise (k .owed) (r .memory) m (let b = g .marks i .0 in let d = a .room in let s = g .small in omega arith) (g .marks i .1)
           ∙ sym (kept-own i (lone-at r i .owed ++ (m ∷ [])) (lone-at r i .owed));
-        others = λ j ne ms. kept-other i j (ms ++ (m ∷ [])) ms ne;
-        risen = λ y. omega arith;
-        still = λ j ne y. refl;
-        fresh = λ q h. absurd h;
-        one = tt;
-      })
+      others = λ j ne ms. kept-other i j (ms ++ (m ∷ [])) ms ne;
+      risen = λ y. omega arith;
+      still = λ j ne y. refl;
+      fresh = λ q h. absurd h;
+      one = tt;
+    })
 
 when-part : (r : Run) (i : ℕ) (F : Part → Type 0) (B : Run → Type 0) (t : Tried Part) → When F t → ((p : Part) → F p → B (with-part r i p)) → When B (lifted r i t)
 when-part r i F B (went p) h go = go p h
@@ -277,16 +287,16 @@ act-counted : (line : Line) (r : Run) (ph : Phase) → r .phase ≡ ph → Sound
 act-counted line r between e h = tt
 act-counted line r (turn i) e h =
     when-part r i (λ p. Acted (r .locations) i None line (part-at r i) p) (λ r′. Counted r r′ (event i line r)) (act-result (r .locations) i None line (part-at r i)) (acting r i None line (h .1))
-      (λ p a. let t = told i r (h .1) (a .step) in
-        subst (Counted r (with-part r i p)) (sym (t .1)) (part-past r i p (t .0) e (h .0) (h .1) (acted-changed r i None line p (h .1) a) (t .2)))
+    (λ p a. let t = told i r (h .1) (a .step) in
+    subst (Counted r (with-part r i p)) (sym (t .1)) (part-past r i p (t .0) e (h .0) (h .1) (acted-changed r i None line p (h .1) a) (t .2)))
 act-counted line r (showing i s cl) e h =
     cond-both (none-owed (thread-at r i .owed)) (refused Moment) (lifted r i (act-result (r .locations) i (Some cl) line (part-at r i))) (When (λ r′. Counted r r′ []))
-      (λ _. tt)
-      (λ _. when-part r i (λ p. Acted (r .locations) i (Some cl) line (part-at r i) p) (λ r′. Counted r r′ []) (act-result (r .locations) i (Some cl) line (part-at r i)) (acting r i (Some cl) line (h .good))
-        (λ p a.
-          let c = acted-changed r i (Some cl) line p (h .good) a in
-          let back : undone (with-part r i p) ≡ undone r = ap (undone-in (with-part r i p)) e ∙ same-back r i p s (h .messages) (h .prints) c ∙ sym (ap (undone-in r) e) in
-          same-past r (with-part r i p) (length-set (r .threads) i (p .thread)) refl (ap (λ (q : Run). q .threads) back) (ap (λ (q : Run). q .memory) back)))
+    (λ _. tt)
+    (λ _. when-part r i (λ p. Acted (r .locations) i (Some cl) line (part-at r i) p) (λ r′. Counted r r′ []) (act-result (r .locations) i (Some cl) line (part-at r i)) (acting r i (Some cl) line (h .good))
+    (λ p a.
+    let c = acted-changed r i (Some cl) line p (h .good) a in
+    let back : undone (with-part r i p) ≡ undone r = ap (undone-in (with-part r i p)) e ∙ same-back r i p s (h .messages) (h .prints) c ∙ sym (ap (undone-in r) e) in
+    same-past r (with-part r i p) (length-set (r .threads) i (p .thread)) refl (ap (λ (q : Run). q .threads) back) (ap (λ (q : Run). q .memory) back)))
 
 begin-counted : (r : Run) (i : ℕ) (ph : Phase) → r .phase ≡ ph → When (λ r′. Counted r r′ (event-in (place-of ph) (T i) r)) (begin-in r i ph)
 begin-counted r i between e =
@@ -299,7 +309,7 @@ promise-counted : (r : Run) (x v f t : ℕ) (ph : Phase) → x < r .locations �
 promise-counted r x v f t between here e h = tt
 promise-counted r x v f t (turn i) here e h =
     when-part r i (Promised r i x v f t) (λ r′. Counted r r′ (event i (G x v f t) r)) (promise-result x v f t (part-at r i)) (promising r i x v f t)
-      (λ p a. part-past r i p (was-promised i (promised-message (thread-at r i .views) x v f t) ∷ []) e (h .0) (h .1) (promised-changed r i x v f t p here (h .1) a) (promise-told r i x v f t p (h .1) a))
+    (λ p a. part-past r i p (was-promised i (promised-message (thread-at r i .views) x v f t) ∷ []) e (h .0) (h .1) (promised-changed r i x v f t p here (h .1) a) (promise-told r i x v f t p (h .1) a))
 promise-counted r x v f t (showing i s cl) here e h = tt
 
 show-counted : (r : Run) (ph : Phase) → r .phase ≡ ph → When (λ r′. Counted r r′ (event-in (place-of ph) X r)) (show-in r ph)
@@ -310,7 +320,7 @@ show-counted r (turn i) e =
     let now : undone r ≡ r = ap (undone-in r) e in
     let back = shown-back r i ph in
     cond-both (none-owed (thread-at r i .owed)) (refused Moment) (went (in-phase r ph)) (When (λ r′. Counted r r′ [])) (λ _. tt)
-      (λ _. same-past r (in-phase r ph) refl refl (ap (λ (q : Run). q .threads) back ∙ ap (λ (q : Run). q .threads) (sym now)) (ap (λ (q : Run). q .memory) back ∙ ap (λ (q : Run). q .memory) (sym now)))
+    (λ _. same-past r (in-phase r ph) refl refl (ap (λ (q : Run). q .threads) back ∙ ap (λ (q : Run). q .threads) (sym now)) (ap (λ (q : Run). q .memory) back ∙ ap (λ (q : Run). q .memory) (sym now)))
 show-counted r (showing i s cl) e = tt
 
 end-counted : (r : Run) (ph : Phase) → r .phase ≡ ph → When (λ r′. Counted r r′ (event-in (place-of ph) E r)) (end-in r ph)
@@ -318,23 +328,23 @@ end-counted r between e = tt
 end-counted r (turn i) e =
     let now : undone r ≡ r = ap (undone-in r) e in
     cond-both (none-owed (thread-at r i .owed)) (went (in-phase r between)) (refused StillOwing) (When (λ r′. Counted r r′ []))
-      (λ _. same-past r (in-phase r between) refl refl (ap (λ (q : Run). q .threads) (sym now)) (ap (λ (q : Run). q .memory) (sym now))) (λ _. tt)
+    (λ _. same-past r (in-phase r between) refl refl (ap (λ (q : Run). q .threads) (sym now)) (ap (λ (q : Run). q .memory) (sym now))) (λ _. tt)
 end-counted r (showing i s cl) e =
     let now : undone r ≡ put-back r i s = ap (undone-in r) e in
     cond-both (none-owed (thread-at r i .owed)) (went (in-phase (put-back r i s) between)) (refused StillOwing) (When (λ r′. Counted r r′ []))
-      (λ _. same-past r (in-phase (put-back r i s) between) (length-set (r .threads) i (s .thread)) refl (ap (λ (q : Run). q .threads) (sym now)) (ap (λ (q : Run). q .memory) (sym now))) (λ _. tt)
+    (λ _. same-past r (in-phase (put-back r i s) between) (length-set (r .threads) i (s .thread)) refl (ap (λ (q : Run). q .threads) (sym now)) (ap (λ (q : Run). q .memory) (sym now))) (λ _. tt)
 
 line-counted : (line : Line) (r : Run) → Sound r → When (λ r′. Counted r r′ (event-in (place-of (r .phase)) line r)) (line-result line r)
 line-counted (T i) r h =
     cond-both (ltb i (length (r .threads))) (begin-in r i (r .phase)) (refused Range) (When (λ r′. Counted r r′ (event-in (place-of (r .phase)) (T i) r)))
-      (λ _. begin-counted r i (r .phase) refl) (λ _. tt)
+    (λ _. begin-counted r i (r .phase) refl) (λ _. tt)
 line-counted N r h = act-counted N r (r .phase) refl h
 line-counted (R t) r h = act-counted (R t) r (r .phase) refl h
 line-counted (W f t) r h = act-counted (W f t) r (r .phase) refl h
 line-counted (U f t) r h = act-counted (U f t) r (r .phase) refl h
 line-counted (G x v f t) r h =
     cond-both (ltb x (r .locations)) (promise-in r x v f t (r .phase)) (refused Range) (When (λ r′. Counted r r′ (event-in (place-of (r .phase)) (G x v f t) r)))
-      (λ lt. promise-counted r x v f t (r .phase) (ltb-true x (r .locations) lt) refl h) (λ _. tt)
+    (λ lt. promise-counted r x v f t (r .phase) (ltb-true x (r .locations) lt) refl h) (λ _. tt)
 line-counted (H t) r h = act-counted (H t) r (r .phase) refl h
 line-counted X r h = show-counted r (r .phase) refl
 line-counted E r h = end-counted r (r .phase) refl
@@ -357,7 +367,7 @@ act-place line r between = tt
 act-place line r (turn i) = lifted-place r i (place-of (r .phase)) (act-result (r .locations) i None line (part-at r i)) refl
 act-place line r (showing i s cl) =
     cond-both (none-owed (thread-at r i .owed)) (refused Moment) (lifted r i (act-result (r .locations) i (Some cl) line (part-at r i))) (When (λ r′. place-of (r′ .phase) ≡ place-of (r .phase)))
-      (λ _. tt) (λ _. lifted-place r i (place-of (r .phase)) (act-result (r .locations) i (Some cl) line (part-at r i)) refl)
+    (λ _. tt) (λ _. lifted-place r i (place-of (r .phase)) (act-result (r .locations) i (Some cl) line (part-at r i)) refl)
 
 begin-place : (r : Run) (i : ℕ) (ph : Phase) → When (Led r (T i)) (begin-in r i ph)
 begin-place r i between = refl
@@ -373,7 +383,7 @@ show-place : (r : Run) (ph : Phase) → r .phase ≡ ph → When (Led r X) (show
 show-place r between e = tt
 show-place r (turn i) e =
     cond-both (none-owed (thread-at r i .owed)) (refused Moment) (went (in-phase r (showing i (saved r i) (closing-line (r .memory))))) (When (Led r X))
-      (λ _. tt) (λ _. sym (ap (λ (ph : Phase). shows-at (place-of ph)) e))
+    (λ _. tt) (λ _. sym (ap (λ (ph : Phase). shows-at (place-of ph)) e))
 show-place r (showing i s cl) e = tt
 
 end-place : (r : Run) (ph : Phase) → When (Led r E) (end-in r ph)
@@ -468,21 +478,22 @@ taken-more ms xs p b = (b .0, in-left (b .0) ms xs (b .1), b .2, b .3, b .4)
 
 past-on : (r r₁ r₂ : Run) (es fs : List Event) → Counted r r₁ es → Past r₁ r₂ fs → Past r r₂ (es ++ fs)
 past-on r r₁ r₂ es fs c b = record {
-    threads = b .threads ∙ c .threads;
-    locations = b .locations ∙ c .locations;
-    memory =
+  threads = b .threads ∙ c .threads;
+  locations = b .locations ∙ c .locations;
+  memory =
       b .memory ∙ ap (λ (ms : List Message). ms ++ messages fs) (c .memory) ∙ append-assoc (undone r .memory) (messages es) (messages fs)
       ∙ ap (λ (ms : List Message). undone r .memory ++ ms) (sym (messages-append es fs));
-    owed = λ j. b .owed j ∙ ap (λ (ms : List Message). owes-after j ms fs) (c .owed j) ∙ sym (owes-append j (lone-at (undone r) j .owed) es fs);
-    rising = λ j x t le.
+  owed = λ j. b .owed j ∙ ap (λ (ms : List Message). owes-after j ms fs) (c .owed j) ∙ sym (owes-append j (lone-at (undone r) j .owed) es fs);
+  rising = λ j x t le.
       subst (Rising-from t) (sym (times-append j x es fs))
-        (rises-on t (at (thread-at (undone r₁) j .views .cur) x) (times j x es) (times j x fs) (lower t (at (thread-at (undone r) j .views .cur) x) (at (thread-at (undone r₁) j .views .cur) x) (times j x es) le (c .risen j x)) (λ u. b .rising j x u));
-    fresh = λ p i taken.
+      (rises-on t (at (thread-at (undone r₁) j .views .cur) x) (times j x es) (times j x fs) (lower t (at (thread-at (undone r) j .views .cur) x) (at (thread-at (undone r₁) j .views .cur) x) (times j x es) le (c .risen j x)) (λ u. b .rising j x u));
+  fresh = λ p i taken.
       elim (is-in-split p (updates es) (updates fs) (subst (Is-in p) (updates-append es fs) i)) [
-        inl a ↦ c .fresh p a .0 taken
-      | inr a ↦ b .fresh p a (subst (λ (ms : List Message). Taken ms p) (sym (c .memory)) (taken-more (undone r .memory) (messages es) p taken)) ];
-    distinct = subst Distinct (sym (updates-append es fs)) (distinct-append (updates es) (updates fs) (c .one) (b .distinct) (λ p i k. b .fresh p k (c .fresh p i .1)));
-  }
+        | inl a ↦ c .fresh p a .0 taken
+        | inr a ↦ b .fresh p a (subst (λ (ms : List Message). Taken ms p) (sym (c .memory)) (taken-more (undone r .memory) (messages es) p taken))
+      ];
+  distinct = subst Distinct (sym (updates-append es fs)) (distinct-append (updates es) (updates fs) (c .one) (b .distinct) (λ p i k. b .fresh p k (c .fresh p i .1)));
+}
   where
     lower : (t lo hi : ℕ) (ts : List ℕ) → t ≤ lo → Rises lo ts hi → Rises t ts hi
     lower t lo hi [] le h = omega arith
@@ -490,19 +501,19 @@ past-on r r₁ r₂ es fs c b = record {
 
 pub past : (a : Place) (r : Run) (lines : List Line) → place-of (r .phase) ≡ a → Sound r → Past r (played r lines) (history a r lines)
 past a r [] e h = record {
-    threads = refl;
-    locations = refl;
-    memory = sym (append-nil (undone r .memory));
-    owed = λ j. refl;
-    rising = λ j x t le. tt;
-    fresh = λ p i. absurd i;
-    distinct = tt;
-  }
+  threads = refl;
+  locations = refl;
+  memory = sym (append-nil (undone r .memory));
+  owed = λ j. refl;
+  rising = λ j x t le. tt;
+  fresh = λ p i. absurd i;
+  distinct = tt;
+}
 past a r (line ∷ lines) e h =
     let t = line-result line r in
     let r₁ = settled r t in
     past-on r r₁ (played r₁ lines) (counted a line r t) (history (moved a line t) r₁ lines) (settled-counted a line r t e (line-counted line r h))
-      (past (moved a line t) r₁ lines (settled-place a line r t e (line-place line r)) (settled-sound r t (line-sound line r h) h))
+    (past (moved a line t) r₁ lines (settled-place a line r t e (line-place line r)) (settled-sound r t (line-sound line r h) h))
 
 pub played-sound : (r : Run) (lines : List Line) → Sound r → Sound (played r lines)
 played-sound r [] h = h

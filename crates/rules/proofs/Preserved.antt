@@ -38,16 +38,19 @@ pub write-within : (l : ℕ) (a : Action) (x v : ℕ) (o : WriteMode) → within
 write-within l Silent x v o e = no-way (cc)
 write-within l (Read y p) x v o e =
     elim (cases-bool (ltb y l)) [
-      inl b ↦ let s : Read y p ≡ Write x v o = sym (cond-true (ltb y l) (Read y p) Ended b) ∙ e in no-way (cc)
-    | inr b ↦ let s = sym (cond-false (ltb y l) (Read y p) Ended b) ∙ e in no-way (cc) ]
+      | inl b ↦ let s : Read y p ≡ Write x v o = sym (cond-true (ltb y l) (Read y p) Ended b) ∙ e in no-way (cc)
+      | inr b ↦ let s = sym (cond-false (ltb y l) (Read y p) Ended b) ∙ e in no-way (cc)
+    ]
 write-within l (Write y w p) x v o e =
     elim (cases-bool (ltb y l)) [
-      inl b ↦ let s = sym (cond-true (ltb y l) (Write y w p) Ended b) ∙ e in let q : y ≡ x = cc in let h = ltb-true y l b in omega arith
-    | inr b ↦ let s = sym (cond-false (ltb y l) (Write y w p) Ended b) ∙ e in no-way (cc) ]
+      | inl b ↦ let s = sym (cond-true (ltb y l) (Write y w p) Ended b) ∙ e in let q : y ≡ x = cc in let h = ltb-true y l b in omega arith
+      | inr b ↦ let s = sym (cond-false (ltb y l) (Write y w p) Ended b) ∙ e in no-way (cc)
+    ]
 write-within l (Update y p w) x v o e =
     elim (cases-bool (ltb y l)) [
-      inl b ↦ let s = sym (cond-true (ltb y l) (Update y p w) Ended b) ∙ e in no-way (cc)
-    | inr b ↦ let s = sym (cond-false (ltb y l) (Update y p w) Ended b) ∙ e in no-way (cc) ]
+      | inl b ↦ let s = sym (cond-true (ltb y l) (Update y p w) Ended b) ∙ e in no-way (cc)
+      | inr b ↦ let s = sym (cond-false (ltb y l) (Update y p w) Ended b) ∙ e in no-way (cc)
+    ]
 write-within l (Fence p) x v o e = no-way (cc)
 write-within l (Print p) x v o e = no-way (cc)
 write-within l Ended x v o e = no-way (cc)
@@ -59,16 +62,19 @@ pub reads-within : (l : ℕ) (a : Action) (x : ℕ) (o : ReadMode) → reads (wi
 reads-within l Silent x o e = no-way (cc)
 reads-within l (Read y p) x o e =
     elim (cases-bool (ltb y l)) [
-      inl b ↦ let s : Some (y, p) ≡ Some (x, o) = sym (ap reads (cond-true (ltb y l) (Read y p) Ended b)) ∙ e in let q : y ≡ x = some-first y x p o s in let h = ltb-true y l b in omega arith
-    | inr b ↦ let s : None ≡ Some (x, o) = sym (ap reads (cond-false (ltb y l) (Read y p) Ended b)) ∙ e in no-way (cc) ]
+      | inl b ↦ let s : Some (y, p) ≡ Some (x, o) = sym (ap reads (cond-true (ltb y l) (Read y p) Ended b)) ∙ e in let q : y ≡ x = some-first y x p o s in let h = ltb-true y l b in omega arith
+      | inr b ↦ let s : None ≡ Some (x, o) = sym (ap reads (cond-false (ltb y l) (Read y p) Ended b)) ∙ e in no-way (cc)
+    ]
 reads-within l (Write y w p) x o e =
     elim (cases-bool (ltb y l)) [
-      inl b ↦ let s : None ≡ Some (x, o) = sym (ap reads (cond-true (ltb y l) (Write y w p) Ended b)) ∙ e in no-way (cc)
-    | inr b ↦ let s : None ≡ Some (x, o) = sym (ap reads (cond-false (ltb y l) (Write y w p) Ended b)) ∙ e in no-way (cc) ]
+      | inl b ↦ let s : None ≡ Some (x, o) = sym (ap reads (cond-true (ltb y l) (Write y w p) Ended b)) ∙ e in no-way (cc)
+      | inr b ↦ let s : None ≡ Some (x, o) = sym (ap reads (cond-false (ltb y l) (Write y w p) Ended b)) ∙ e in no-way (cc)
+    ]
 reads-within l (Update y p w) x o e =
     elim (cases-bool (ltb y l)) [
-      inl b ↦ let s : Some (y, p) ≡ Some (x, o) = sym (ap reads (cond-true (ltb y l) (Update y p w) Ended b)) ∙ e in let q : y ≡ x = some-first y x p o s in let h = ltb-true y l b in omega arith
-    | inr b ↦ let s : None ≡ Some (x, o) = sym (ap reads (cond-false (ltb y l) (Update y p w) Ended b)) ∙ e in no-way (cc) ]
+      | inl b ↦ let s : Some (y, p) ≡ Some (x, o) = sym (ap reads (cond-true (ltb y l) (Update y p w) Ended b)) ∙ e in let q : y ≡ x = some-first y x p o s in let h = ltb-true y l b in omega arith
+      | inr b ↦ let s : None ≡ Some (x, o) = sym (ap reads (cond-false (ltb y l) (Update y p w) Ended b)) ∙ e in no-way (cc)
+    ]
 reads-within l (Fence p) x o e = no-way (cc)
 reads-within l (Print p) x o e = no-way (cc)
 reads-within l Ended x o e = no-way (cc)
@@ -84,8 +90,9 @@ pub known-join : (ms : List Message) (a b : View) → Known ms a → Known ms b 
 known-join ms a b h g x =
     let e = at-join a b x in
     elim (cases-lt (at a x) (at b x)) [
-      inl l ↦ right (omega arith) (g x)
-    | inr l ↦ left (omega arith) (h x) ]
+      | inl l ↦ right (omega arith) (g x)
+      | inr l ↦ left (omega arith) (h x)
+    ]
   where
     right : at b x ≡ at (join a b) x → (at b x ≡ 0) ⊎ ((m : Message) × In m ms × (m .location ≡ x) × (m .to ≡ at b x)) → (at (join a b) x ≡ 0) ⊎ ((m : Message) × In m ms × (m .location ≡ x) × (m .to ≡ at (join a b) x))
     right e (inl z) = inl (sym e ∙ z)
@@ -98,25 +105,30 @@ known-join ms a b h g x =
 pub known-single : (ms : List Message) (m : Message) → In m ms → Known ms (single (m .location) (m .to))
 known-single ms m i y =
     elim (cases-eq y (m .location)) [
-      inl e ↦ elim (cases-lt (m .location) 8) [
-          inl lt ↦ inr (m, i, sym e, sym (ap (at (single (m .location) (m .to))) e ∙ at-single (m .location) (m .to) lt))
-        | inr ge ↦ inl (ap (λ (v : View). at v y) (single-outside (m .location) (m .to) ge) ∙ at-zero y) ]
-    | inr ne ↦ inl (at-single-other (m .location) (m .to) y ne) ]
+      | inl e ↦ elim (cases-lt (m .location) 8) [
+        | inl lt ↦ inr (m, i, sym e, sym (ap (at (single (m .location) (m .to))) e ∙ at-single (m .location) (m .to) lt))
+        | inr ge ↦ inl (ap (λ (v : View). at v y) (single-outside (m .location) (m .to) ge) ∙ at-zero y)
+      ]
+      | inr ne ↦ inl (at-single-other (m .location) (m .to) y ne)
+    ]
 
 -- what the rel of a location is after one was set, or all were
 rel-set : (F : View → Type 0) (vs : List View) (x y : ℕ) (v : View) → F v → F (getD vs y zero-view) → F (getD (set vs x v) y zero-view)
 rel-set F vs x y v h g =
     elim (cases-eq y x) [
-      inl e ↦ elim (cases-lt x (length vs)) [
-          inl lt ↦ subst F (sym (ap (λ (n : ℕ). getD (set vs x v) n zero-view) e ∙ getD-set-same vs x v zero-view lt)) h
-        | inr ge ↦ subst F (sym (ap (λ (ws : List View). getD ws y zero-view) (set-past vs x v ge))) g ]
-    | inr ne ↦ subst F (sym (getD-set-other vs x y v zero-view ne)) g ]
+      | inl e ↦ elim (cases-lt x (length vs)) [
+        | inl lt ↦ subst F (sym (ap (λ (n : ℕ). getD (set vs x v) n zero-view) e ∙ getD-set-same vs x v zero-view lt)) h
+        | inr ge ↦ subst F (sym (ap (λ (ws : List View). getD ws y zero-view) (set-past vs x v ge))) g
+      ]
+      | inr ne ↦ subst F (sym (getD-set-other vs x y v zero-view ne)) g
+    ]
 
 rel-all : (F : View → Type 0) (y : ℕ) (v : View) → F v → F zero-view → F (getD (replicate 8 v) y zero-view)
 rel-all F y v h z =
     elim (cases-lt y 8) [
-      inl lt ↦ subst F (sym (getD-replicate 8 y v zero-view lt)) h
-    | inr ge ↦ subst F (sym (getD-past (replicate 8 v) y zero-view (let e = length-replicate 8 v in omega arith))) z ]
+      | inl lt ↦ subst F (sym (getD-replicate 8 y v zero-view lt)) h
+      | inr ge ↦ subst F (sym (getD-past (replicate 8 v) y zero-view (let e = length-replicate 8 v in omega arith))) z
+    ]
 
 -- the views of a thread, among these messages
 pub record Fit (ms : List Message) (vs : Views) : Type 0 where
@@ -126,22 +138,22 @@ pub record Fit (ms : List Message) (vs : Views) : Type 0 where
 
 pub fit-more : (ms xs : List Message) (vs : Views) → Fit ms vs → Fit (ms ++ xs) vs
 fit-more ms xs vs h = record {
-    known = record {
-      cur = known-more ms xs (vs .cur) (h .known .cur);
-      acq = known-more ms xs (vs .acq) (h .known .acq);
-      rel = λ x. known-more ms xs (rel-at vs x) (h .known .rel x);
-    };
-    ordered = h .ordered;
-    eight = h .eight;
-  }
+  known = record {
+    cur = known-more ms xs (vs .cur) (h .known .cur);
+    acq = known-more ms xs (vs .acq) (h .known .acq);
+    rel = λ x. known-more ms xs (rel-at vs x) (h .known .rel x);
+  };
+  ordered = h .ordered;
+  eight = h .eight;
+}
 
 read-fit : (ms : List Message) (o : ReadMode) (m : Message) (vs : Views) → In m ms → Known ms (m .view) → Fit ms vs
     → Fit ms (read-views o (m .location) (m .to) (m .view) vs)
 read-fit ms o m vs i km h = record {
-    known = record { cur = cur o; acq = known-join ms (join (vs .acq) s) (m .view) (known-join ms (vs .acq) s (h .known .acq) ks) km; rel = h .known .rel };
-    ordered = record { rel = λ x y. let a = h .ordered .rel x y in let b = more o y in omega arith; acq = below o };
-    eight = h .eight;
-  }
+  known = record { cur = cur o; acq = known-join ms (join (vs .acq) s) (m .view) (known-join ms (vs .acq) s (h .known .acq) ks) km; rel = h .known .rel };
+  ordered = record { rel = λ x y. let a = h .ordered .rel x y in let b = more o y in omega arith; acq = below o };
+  eight = h .eight;
+}
   where
     s : View
     s = single (m .location) (m .to)
@@ -174,18 +186,18 @@ read-fit ms o m vs i km h = record {
 
 write-fit : (ms : List Message) (o : WriteMode) (x t : ℕ) (vs : Views) → Known ms (single x t) → Fit ms vs → Fit ms (write-views o x t vs)
 write-fit ms o x t vs ks h = record {
-    known = record {
-      cur = kc;
-      acq = known-join ms (vs .acq) (single x t) (h .known .acq) ks;
-      rel = λ y. rel-set (Known ms) (vs .rel) x y (write-rel o (join (rel-at vs x) (single x t)) (join (vs .cur) (single x t))) (kr o) (h .known .rel y);
-    };
-    ordered = record {
-      rel = λ y. rel-set (λ v. Below v (join (vs .cur) (single x t))) (vs .rel) x y (write-rel o (join (rel-at vs x) (single x t)) (join (vs .cur) (single x t))) (br o)
+  known = record {
+    cur = kc;
+    acq = known-join ms (vs .acq) (single x t) (h .known .acq) ks;
+    rel = λ y. rel-set (Known ms) (vs .rel) x y (write-rel o (join (rel-at vs x) (single x t)) (join (vs .cur) (single x t))) (kr o) (h .known .rel y);
+  };
+  ordered = record {
+    rel = λ y. rel-set (λ v. Below v (join (vs .cur) (single x t))) (vs .rel) x y (write-rel o (join (rel-at vs x) (single x t)) (join (vs .cur) (single x t))) (br o)
         (λ z. let a = h .ordered .rel y z in let b = at-join (vs .cur) (single x t) z in omega arith);
-      acq = λ y. let a = h .ordered .acq y in let b = at-join (vs .cur) (single x t) y in let c = at-join (vs .acq) (single x t) y in omega arith;
-    };
-    eight = length-set (vs .rel) x (write-rel o (join (rel-at vs x) (single x t)) (join (vs .cur) (single x t))) ∙ h .eight;
-  }
+    acq = λ y. let a = h .ordered .acq y in let b = at-join (vs .cur) (single x t) y in let c = at-join (vs .acq) (single x t) y in omega arith;
+  };
+  eight = length-set (vs .rel) x (write-rel o (join (rel-at vs x) (single x t)) (join (vs .cur) (single x t))) ∙ h .eight;
+}
   where
     kc : Known ms (join (vs .cur) (single x t))
     kc = known-join ms (vs .cur) (single x t) (h .known .cur) ks
@@ -205,10 +217,10 @@ write-fit ms o x t vs ks h = record {
 
 pub all-fit : (ms : List Message) (v : View) → Known ms v → Fit ms (all-views v)
 all-fit ms v h = record {
-    known = record { cur = h; acq = h; rel = λ y. rel-all (Known ms) y v h (known-zero ms) };
-    ordered = record { rel = λ y. rel-all (λ w. Below w v) y v (below-refl v) (zero-below v); acq = below-refl v };
-    eight = length-replicate 8 v;
-  }
+  known = record { cur = h; acq = h; rel = λ y. rel-all (Known ms) y v h (known-zero ms) };
+  ordered = record { rel = λ y. rel-all (λ w. Below w v) y v (below-refl v) (zero-below v); acq = below-refl v };
+  eight = length-replicate 8 v;
+}
 
 -- what the view of a written message has at its own location
 pub written-end : (o : WriteMode) (x t : ℕ) (vs : Views) → x < 8 → length (vs .rel) ≡ 8 → Ordered vs → at (vs .cur) x ≤ t → at (rel-at (write-views o x t vs) x) x ≡ t
@@ -231,8 +243,9 @@ read-cur-end o x t m c h g = go o
     s-end : at (single x t) x ≤ t
     s-end =
         elim (cases-lt x 8) [
-          inl lt ↦ let e = at-single x t lt in omega arith
-        | inr ge ↦ let e = ap (λ (v : View). at v x) (single-outside x t ge) ∙ at-zero x in omega arith ]
+          | inl lt ↦ let e = at-single x t lt in omega arith
+          | inr ge ↦ let e = ap (λ (v : View). at v x) (single-outside x t ge) ∙ at-zero x in omega arith
+        ]
 
     go : (o : ReadMode) → at (read-cur o x t m c) x ≤ t
     go Relaxed-read = let a = at-join c (single x t) x in omega (arith, s-end)
@@ -252,11 +265,11 @@ pub record Sane (ms : List Message) : Type 0 where
 pub sane-push : (ms : List Message) (m : Message) → Sane ms → m .location < 8 → m .from < m .to → at (m .view) (m .location) ≡ m .to → Free (m .location) (m .from) (m .to) ms → Known (ms ++ (m ∷ [])) (m .view)
     → Sane (ms ++ (m ∷ []))
 sane-push ms m h place span end free k = record {
-    placed = in-push (λ n. n .location < 8) ms m (h .placed) place;
-    formed = in-push Well-formed ms m (h .formed) (inr (span, end));
-    apart = apart-push m ms (h .apart) (free-off m span ms (h .formed) free);
-    known = in-push (λ n. Known (ms ++ (m ∷ [])) (n .view)) ms m (λ n i. known-more ms (m ∷ []) (n .view) (h .known n i)) k;
-  }
+  placed = in-push (λ n. n .location < 8) ms m (h .placed) place;
+  formed = in-push Well-formed ms m (h .formed) (inr (span, end));
+  apart = apart-push m ms (h .apart) (free-off m span ms (h .formed) free);
+  known = in-push (λ n. Known (ms ++ (m ∷ [])) (n .view)) ms m (λ n i. known-more ms (m ∷ []) (n .view) (h .known n i)) k;
+}
 
 -- a thread with S and a memory
 pub record Holds (k : Lone) (S : View) (M : List Message) : Type 0 where
@@ -272,11 +285,11 @@ module _ (l : ℕ) (few : l ≤ 8) (closing : Option View) (k : Lone) (S : View)
   grown : (k′ : Lone) (m : Message) → k′ .owed ≡ k .owed → m .location < 8 → m .from < m .to → at (m .view) (m .location) ≡ m .to → Free (m .location) (m .from) (m .to) M
       → Fit (M ++ (m ∷ [])) (k′ .views) → Known (M ++ (m ∷ [])) (m .view) → Holds k′ S (M ++ (m ∷ []))
   grown k′ m e place span end free f v = record {
-      fit = f;
-      sc = known-more M (m ∷ []) S (h .sc);
-      sane = sane-push M m (h .sane) place span end free v;
-      owed = λ n i. in-left n M (m ∷ []) (h .owed n (subst (In n) e i));
-    }
+    fit = f;
+    sc = known-more M (m ∷ []) S (h .sc);
+    sane = sane-push M m (h .sane) place span end free v;
+    owed = λ n i. in-left n M (m ∷ []) (h .owed n (subst (In n) e i));
+  }
 
   fenced : (vs : Views) → Known M (vs .cur) → Known M (vs .acq) → ((x : ℕ) → Known M (rel-at vs x)) → ((x : ℕ) → Below (rel-at vs x) (vs .cur)) → Below (vs .cur) (vs .acq) → length (vs .rel) ≡ 8 → Fit M vs
   fenced vs c a r br ba e = record { known = record { cur = c; acq = a; rel = r }; ordered = record { rel = br; acq = ba }; eight = e }
@@ -285,11 +298,11 @@ module _ (l : ℕ) (few : l ≤ 8) (closing : Option View) (k : Lone) (S : View)
   step-holds {k′ = k′} (silent e) = same k′ S (h .fit) (h .sc) refl
   step-holds {k′ = k′} (acquire-fence e) =
       same k′ S (fenced (acquire-views (k .views)) (h .fit .known .acq) (h .fit .known .acq) (h .fit .known .rel)
-        (λ x y. let a = h .fit .ordered .rel x y in let b = h .fit .ordered .acq y in omega arith) (below-refl (k .views .acq)) (h .fit .eight)) (h .sc) refl
+      (λ x y. let a = h .fit .ordered .rel x y in let b = h .fit .ordered .acq y in omega arith) (below-refl (k .views .acq)) (h .fit .eight)) (h .sc) refl
   step-holds {k′ = k′} (release-fence e n) =
       let c = k .views .cur in
       same k′ S (fenced (release-views (k .views)) (h .fit .known .cur) (h .fit .known .acq) (λ x. rel-all (Known M) x c (h .fit .known .cur) (known-zero M))
-        (λ x. rel-all (λ w. Below w c) x c (below-refl c) (zero-below c)) (h .fit .ordered .acq) (length-replicate 8 c)) (h .sc) refl
+      (λ x. rel-all (λ w. Below w c) x c (below-refl c) (zero-below c)) (h .fit .ordered .acq) (length-replicate 8 c)) (h .sc) refl
   step-holds {k′ = k′} (both-fence e n) = same k′ S (all-fit M (k .views .acq) (h .fit .known .acq)) (h .sc) refl
   step-holds {k′ = k′} {S′ = S′} (sequential-fence e n) =
       let s = known-join M S (k .views .acq) (h .sc) (h .fit .known .acq) in
@@ -315,7 +328,7 @@ module _ (l : ℕ) (few : l ≤ 8) (closing : Option View) (k : Lone) (S : View)
       let rel : at (rel-at vs x) x ≡ t = written-end w x t us (omega arith) (read .eight) (read .ordered) (omega arith) in
       let end : at (join (rel-at vs x) (m .view)) x ≡ t = let a = at-join (rel-at vs x) (m .view) x in omega arith in
       grown k′ m′ refl (omega arith) span end free fit
-        (known-join (M ++ (m′ ∷ [])) (rel-at vs x) (m .view) (fit .known .rel x) (known-more M (m′ ∷ []) (m .view) (h .sane .known m i)))
+      (known-join (M ++ (m′ ∷ [])) (rel-at vs x) (m .view) (fit .known .rel x) (known-more M (m′ ∷ []) (m .view) (h .sane .known m i)))
   step-holds {k′ = k′} (keep m before later e o less) =
       record {
         fit = write-fit M Relaxed (m .location) (m .to) (k .views) (known-single M m (h .owed m (subst (In m) (sym o) (in-right m before (m ∷ later) (inl refl))))) (h .fit);

@@ -53,24 +53,29 @@ later-new low by t h = cond-false (leb t low) t (t + by) (lt-leb t low h)
 later-le : (low by s t : ℕ) → s ≤ t → later low by s ≤ later low by t
 later-le low by s t h =
     elim (cases-lt low s) [
-      inl a ↦ omega (arith, later-new low by s a, later-new low by t (omega arith))
-    | inr a ↦ elim (cases-lt low t) [
-        inl b ↦ omega (arith, later-old low by s a, later-new low by t b)
-      | inr b ↦ omega (arith, later-old low by s a, later-old low by t b) ] ]
+      | inl a ↦ omega (arith, later-new low by s a, later-new low by t (omega arith))
+      | inr a ↦ elim (cases-lt low t) [
+        | inl b ↦ omega (arith, later-old low by s a, later-new low by t b)
+        | inr b ↦ omega (arith, later-old low by s a, later-old low by t b)
+      ]
+    ]
 
 later-lt : (low by s t : ℕ) → s < t → later low by s < later low by t
 later-lt low by s t h =
     elim (cases-lt low s) [
-      inl a ↦ omega (arith, later-new low by s a, later-new low by t (omega arith))
-    | inr a ↦ elim (cases-lt low t) [
-        inl b ↦ omega (arith, later-old low by s a, later-new low by t b)
-      | inr b ↦ omega (arith, later-old low by s a, later-old low by t b) ] ]
+      | inl a ↦ omega (arith, later-new low by s a, later-new low by t (omega arith))
+      | inr a ↦ elim (cases-lt low t) [
+        | inl b ↦ omega (arith, later-old low by s a, later-new low by t b)
+        | inr b ↦ omega (arith, later-old low by s a, later-old low by t b)
+      ]
+    ]
 
 later-max : (low by s t : ℕ) → later low by (max s t) ≡ max (later low by s) (later low by t)
 later-max low by s t =
     elim (cases-lt s t) [
-      inl a ↦ let e : max s t ≡ t = omega arith in let m = later-le low by s t (omega arith) in ap (later low by) e ∙ omega arith
-    | inr a ↦ let e : max s t ≡ s = omega arith in let m = later-le low by t s a in ap (later low by) e ∙ omega arith ]
+      | inl a ↦ let e : max s t ≡ t = omega arith in let m = later-le low by s t (omega arith) in ap (later low by) e ∙ omega arith
+      | inr a ↦ let e : max s t ≡ s = omega arith in let m = later-le low by t s a in ap (later low by) e ∙ omega arith
+    ]
 
 -- a line and a delay for each location
 module _ (low by : ℕ → ℕ) where
@@ -133,7 +138,7 @@ module _ (low by : ℕ → ℕ) where
   shift-single x t =
       let e : 0 + x ≡ x = omega arith in
       ap (λ (ts : List ℕ). record { ends = ts })
-        (ends-set 0 (replicate 8 0) x t ∙ ap (λ (us : List ℕ). set us x (shift (0 + x) t)) (ends-zeros 0 8) ∙ ap (λ (n : ℕ). set (replicate 8 0) x (shift n t)) e)
+      (ends-set 0 (replicate 8 0) x t ∙ ap (λ (us : List ℕ). set us x (shift (0 + x) t)) (ends-zeros 0 8) ∙ ap (λ (n : ℕ). set (replicate 8 0) x (shift n t)) e)
 
   -- what does not reach above the line stays
   ends-stay : (k : ℕ) (ts : List ℕ) → ((x : ℕ) → getD ts x 0 ≤ low (k + x)) → shift-ends k ts ≡ ts
@@ -178,8 +183,8 @@ module _ (low by : ℕ → ℕ) where
           ≡ write-rel o (join (rel-at (shift-views vs) x) (single x (shift x t))) (join (shift-view (vs .cur)) (single x (shift x t)))
       one =
           shift-write-rel o (join (rel-at vs x) (single x t)) (join (vs .cur) (single x t))
-            (join (rel-at (shift-views vs) x) (single x (shift x t))) (join (shift-view (vs .cur)) (single x (shift x t)))
-            (take-in x t (rel-at vs x) ∙ ap (λ (w : View). join w (single x (shift x t))) (sym (shift-rel-at vs x))) (take-in x t (vs .cur))
+          (join (rel-at (shift-views vs) x) (single x (shift x t))) (join (shift-view (vs .cur)) (single x (shift x t)))
+          (take-in x t (rel-at vs x) ∙ ap (λ (w : View). join w (single x (shift x t))) (sym (shift-rel-at vs x))) (take-in x t (vs .cur))
 
       rels : map shift-view (set (vs .rel) x (write-rel o (join (rel-at vs x) (single x t)) (join (vs .cur) (single x t))))
           ≡ set (map shift-view (vs .rel)) x (write-rel o (join (rel-at (shift-views vs) x) (single x (shift x t))) (join (shift-view (vs .cur)) (single x (shift x t))))
@@ -220,12 +225,13 @@ module _ (l : ℕ) (cl : View) (base big : List Message) (has : Within base big)
 
   known-low : (v : View) → Known base v → (x : ℕ) → at v x ≤ at cl x
   known-low v h x = elim (h x) [
-      inl z ↦ omega arith
+    | inl z ↦ omega arith
     | inr m ↦
         let u = under (m .0) (m .1) in
         let e : at cl (m .0 .location) ≡ at cl x = ap (at cl) (m .2) in
         let t = m .3 in
-        omega arith ]
+        omega arith
+  ]
 
   old-message : (m : Message) → In m base → sm m ≡ m
   old-message m i =
@@ -243,8 +249,9 @@ module _ (l : ℕ) (cl : View) (base big : List Message) (has : Within base big)
   in-wide : (ms new : List Message) (m : Message) → ms ≡ base ++ new → In m ms → In (sm m) (wide new)
   in-wide ms new m split h =
       elim (in-split m base new (subst (In m) split h)) [
-        inl a ↦ subst (λ (n : Message). In n (wide new)) (sym (old-message m a)) (in-left m big (map sm new) (has m a))
-      | inr a ↦ in-right (sm m) big (map sm new) (in-map sm m new a) ]
+        | inl a ↦ subst (λ (n : Message). In n (wide new)) (sym (old-message m a)) (in-left m big (map sm new) (has m a))
+        | inr a ↦ in-right (sm m) big (map sm new) (in-map sm m new a)
+      ]
 
   free-later : (ms new : List Message) (x f t : ℕ) → ms ≡ base ++ new → New new → at cl x < f → f < t → Free x f t ms → Free x (sh x f) (sh x t) (wide new)
   free-later ms new x f t split fresh above span fr n h o =
@@ -266,9 +273,9 @@ module _ (l : ℕ) (cl : View) (base big : List Message) (has : Within base big)
           let fr-m = fresh m (r .1) in
           let low-m : at cl (m .location) ≡ at cl x = ap (at cl) loc in
           let to : n .to ≡ m .to + greatest-end x big =
-            ap (λ (q : Message). q .to) (r .2) ∙ ap (λ (y : ℕ). sh y (m .to)) loc ∙ later-new (at cl x) (greatest-end x big) (m .to) (omega arith) in
+          ap (λ (q : Message). q .to) (r .2) ∙ ap (λ (y : ℕ). sh y (m .to)) loc ∙ later-new (at cl x) (greatest-end x big) (m .to) (omega arith) in
           let from : n .from ≡ m .from + greatest-end x big =
-            ap (λ (q : Message). q .from) (r .2) ∙ ap (λ (y : ℕ). sh y (m .from)) loc ∙ later-new (at cl x) (greatest-end x big) (m .from) (omega arith) in
+          ap (λ (q : Message). q .from) (r .2) ∙ ap (λ (y : ℕ). sh y (m .from)) loc ∙ later-new (at cl x) (greatest-end x big) (m .from) (omega arith) in
           let a : f < m .to = let q = o .1 in omega (arith, ef) in
           let b : m .from < t = let q = o .2 in omega (arith, et) in
           fr m (subst (In m) (sym split) (in-right m base new (r .1))) (loc, a, b)
@@ -293,12 +300,16 @@ module _ (l : ℕ) (cl : View) (base big : List Message) (has : Within base big)
       → ((S : View) → Alone l None (sl k) S (wide new) ln (went-on (sl k) v (svs vs)) S (wide new ++ (m′ ∷ [])))
       → Made k new (went-on k v vs) (ms ++ (m ∷ []))
   wrote k ms new ln v vs m m′ split fresh owes above span e s = (
-      new ++ (m ∷ []),
-      ap (λ (xs : List Message). xs ++ (m ∷ [])) split ∙ append-assoc base new (m ∷ []),
-      in-push (λ n. (at cl (n .location) < n .from) × (n .from < n .to)) new m fresh (above, span),
-      owes,
-      (ln, λ S. subst (λ (xs : List Message). Alone l None (sl k) S (wide new) ln (went-on (sl k) v (svs vs)) S xs)
-        (ap (λ (n : Message). wide new ++ (n ∷ [])) e ∙ grown new m) (s S)))
+    new ++ (m ∷ []),
+    ap (λ (xs : List Message). xs ++ (m ∷ [])) split ∙ append-assoc base new (m ∷ []),
+    in-push (λ n. (at cl (n .location) < n .from) × (n .from < n .to)) new m fresh (above, span),
+    owes,
+    (
+      ln,
+      λ S. subst (λ (xs : List Message). Alone l None (sl k) S (wide new) ln (went-on (sl k) v (svs vs)) S xs)
+          (ap (λ (n : Message). wide new ++ (n ∷ [])) e ∙ grown new m) (s S),
+    ),
+  )
 
   step-later : {k k′ : Lone} {S S′ : View} {ms ms′ : List Message} {ln : Line} (new : List Message) → ms ≡ base ++ new → New new → Owes k
       → (Owes-nothing k → ⊥) → Alone l (Some cl) k S ms ln k′ S′ ms′ → Made k new k′ ms′
@@ -309,18 +320,25 @@ module _ (l : ℕ) (cl : View) (base big : List Message) (has : Within base big)
   step-later new split fresh owes owing (sequential-fence e n) = absurd (owing n)
   step-later new split fresh owes owing (print v e n) = absurd (owing n)
   step-later {k} {ms = ms} new split fresh owes owing (read o m e i le τ) = (
-      new, split, fresh, owes,
-      (R (sm m .to), λ S. subst (λ (vs : Views). Alone l None (sl k) S (wide new) (R (sm m .to)) (went-on (sl k) (m .value) vs) S (wide new)) (sym (shift-read low by o (m .location) (m .to) (m .view) (k .views)))
-        (read o (sm m) e (in-wide ms new m split i) (cur-le k (m .location) (m .to) le) τ)))
+    new,
+    split,
+    fresh,
+    owes,
+    (
+      R (sm m .to),
+      λ S. subst (λ (vs : Views). Alone l None (sl k) S (wide new) (R (sm m .to)) (went-on (sl k) (m .value) vs) S (wide new)) (sym (shift-read low by o (m .location) (m .to) (m .view) (k .views)))
+          (read o (sm m) e (in-wide ms new m split i) (cur-le k (m .location) (m .to) le) τ),
+    ),
+  )
   step-later {k} {ms = ms} new split fresh owes owing (write x v o f t e n less span free up) =
       let vs = write-views o x t (k .views) in
       let m = written x v f t vs in
       let m′ = written x v (sh x f) (sh x t) (svs vs) in
       let same : m′ ≡ sm m = λ j. record { location = x; from = sh x f; to = sh x t; value = v; view = shift-rel-at low by vs x j } in
       wrote k ms new (W (sh x f) (sh x t)) 0 vs m m′ split fresh owes up span same
-        (λ S. subst (λ (us : Views). Alone l None (sl k) S (wide new) (W (sh x f) (sh x t)) (went-on (sl k) 0 us) S (wide new ++ (written x v (sh x f) (sh x t) us ∷ [])))
-          (sym (shift-write low by o x t (k .views)))
-          (write x v o (sh x f) (sh x t) e n (cur-lt k x t less) (later-lt (low x) (by x) f t span) (free-later ms new x f t split fresh up span free) tt))
+      (λ S. subst (λ (us : Views). Alone l None (sl k) S (wide new) (W (sh x f) (sh x t)) (went-on (sl k) 0 us) S (wide new ++ (written x v (sh x f) (sh x t) us ∷ [])))
+      (sym (shift-write low by o x t (k .views)))
+      (write x v o (sh x f) (sh x t) e n (cur-lt k x t less) (later-lt (low x) (by x) f t span) (free-later ms new x f t split fresh up span free) tt))
   step-later {k} {ms = ms} new split fresh owes owing (update o w m v t e n i le τ span free up) =
       let x = m .location in
       let us = read-views o x (m .to) (m .view) (k .views) in
@@ -328,24 +346,30 @@ module _ (l : ℕ) (cl : View) (base big : List Message) (has : Within base big)
       let m₁ = updated-message x v (m .to) t (m .view) vs in
       let m′ = updated-message x v (sh x (m .to)) (sh x t) (sv (m .view)) (svs vs) in
       let view : join (rel-at (svs vs) x) (sv (m .view)) ≡ sv (join (rel-at vs x) (m .view)) =
-        ap (λ (a : View). join a (sv (m .view))) (shift-rel-at low by vs x) ∙ sym (shift-join low by (rel-at vs x) (m .view)) in
+      ap (λ (a : View). join a (sv (m .view))) (shift-rel-at low by vs x) ∙ sym (shift-join low by (rel-at vs x) (m .view)) in
       let same : m′ ≡ sm m₁ = λ j. record { location = x; from = sh x (m .to); to = sh x t; value = v; view = view j } in
       let changed : update-views o w x (sh x (m .to)) (sh x t) (sv (m .view)) (svs (k .views)) ≡ svs vs =
-        ap (write-views w x (sh x t)) (sym (shift-read low by o x (m .to) (m .view) (k .views))) ∙ sym (shift-write low by w x t us) in
+      ap (write-views w x (sh x t)) (sym (shift-read low by o x (m .to) (m .view) (k .views))) ∙ sym (shift-write low by w x t us) in
       wrote k ms new (U (sh x (m .to)) (sh x t)) (m .value) vs m₁ m′ split fresh owes up span same
-        (λ S. subst (λ (ws : Views). Alone l None (sl k) S (wide new) (U (sh x (m .to)) (sh x t)) (went-on (sl k) (m .value) ws) S (wide new ++ (updated-message x v (sh x (m .to)) (sh x t) (sv (m .view)) ws ∷ [])))
-          changed
-          (update o w (sm m) v (sh x t) e n (in-wide ms new m split i) (cur-le k x (m .to) le) τ (later-lt (low x) (by x) (m .to) t span) (free-later ms new x (m .to) t split fresh up span free) tt))
+      (λ S. subst (λ (ws : Views). Alone l None (sl k) S (wide new) (U (sh x (m .to)) (sh x t)) (went-on (sl k) (m .value) ws) S (wide new ++ (updated-message x v (sh x (m .to)) (sh x t) (sv (m .view)) ws ∷ [])))
+      changed
+      (update o w (sm m) v (sh x t) e n (in-wide ms new m split i) (cur-le k x (m .to) le) τ (later-lt (low x) (by x) (m .to) t span) (free-later ms new x (m .to) t split fresh up span free) tt))
   step-later {k} new split fresh owes owing (keep m before later e o less) =
       let x = m .location in
       let i : In m base = owes m (subst (In m) (sym o) (in-right m before (m ∷ later) (inl refl))) in
       let old : sh x (m .to) ≡ m .to = later-old (low x) (by x) (m .to) (under m i) in
       let views : write-views Relaxed x (m .to) (svs (k .views)) ≡ svs (write-views Relaxed x (m .to) (k .views)) =
-        ap (λ (u : ℕ). write-views Relaxed x u (svs (k .views))) (sym old) ∙ sym (shift-write low by Relaxed x (m .to) (k .views)) in
-      (new, split, fresh,
-       (λ n h. owes n (subst (In n) (sym o) (elim (in-split n before later h) [ inl a ↦ in-left n before (m ∷ later) a | inr b ↦ in-right n before (m ∷ later) (inr b) ]))),
-       (H (m .to), λ S. subst (λ (vs : Views). Alone l None (sl k) S (wide new) (H (m .to)) (record { does = after (k .does) 0; views = vs; owed = before ++ later }) S (wide new)) views
-         (keep m before later e o (subst (λ (u : ℕ). at (sv (k .views .cur)) x < u) old (cur-lt k x (m .to) less)))))
+      ap (λ (u : ℕ). write-views Relaxed x u (svs (k .views))) (sym old) ∙ sym (shift-write low by Relaxed x (m .to) (k .views)) in (
+        new,
+        split,
+        fresh,
+        (λ n h. owes n (subst (In n) (sym o) (elim (in-split n before later h) [ inl a ↦ in-left n before (m ∷ later) a | inr b ↦ in-right n before (m ∷ later) (inr b) ]))),
+        (
+          H (m .to),
+          λ S. subst (λ (vs : Views). Alone l None (sl k) S (wide new) (H (m .to)) (record { does = after (k .does) 0; views = vs; owed = before ++ later }) S (wide new)) views
+              (keep m before later e o (subst (λ (u : ℕ). at (sv (k .views .cur)) x < u) old (cur-lt k x (m .to) less))),
+        ),
+      )
 
   -- all the steps
   abbrev All-made : Lone → Lone → List Message → Type 0
@@ -353,8 +377,12 @@ module _ (l : ℕ) (cl : View) (base big : List Message) (has : Within base big)
 
   steps-later : {k : Lone} {S : View} {k′ : Lone} {S′ : View} {ms′ : List Message} → Owes k → Shown l cl k S base k′ S′ ms′ → All-made k k′ ms′
   steps-later {k} owes start = (
-      [], sym (append-nil base), (λ m h. absurd h), owes,
-      λ S. subst (λ (xs : List Message). Steps l None (sl k) S big (sl k) S xs) (sym (append-nil big)) done)
+    [],
+    sym (append-nil base),
+    (λ m h. absurd h),
+    owes,
+    λ S. subst (λ (xs : List Message). Steps l None (sl k) S big (sl k) S xs) (sym (append-nil big)) done,
+  )
   steps-later owes (more rest owing step) =
       let r = steps-later owes rest in
       let s = step-later (r .0) (r .1) (r .2) (r .3) owing step in

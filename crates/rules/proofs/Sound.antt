@@ -51,22 +51,23 @@ holds-at r j g = record { fit = g .fit j; sc = g .sc; sane = g .sane; owed = λ 
 
 pub good-phase : (r : Run) (ph : Phase) → Good r → Good (in-phase r ph)
 good-phase r ph g = record {
-    few = g .few;
-    small = g .small;
-    room = g .room;
-    prints = g .prints;
-    marks = g .marks;
-    fit = g .fit;
-    sc = g .sc;
-    sane = g .sane;
-  }
+  few = g .few;
+  small = g .small;
+  room = g .room;
+  prints = g .prints;
+  marks = g .marks;
+  fit = g .fit;
+  sc = g .sc;
+  sane = g .sane;
+}
 
 -- one of a list that was set at i
 pub at-set : (ks : List Thread) (i j : ℕ) (k : Thread) (F : Thread → Type 0) → i < length ks → (j ≡ i → F k) → ((j ≡ i → ⊥) → F (getD ks j nobody)) → F (getD (set ks i k) j nobody)
 at-set ks i j k F lt same other =
     elim (cases-eq j i) [
-      inl e ↦ subst F (sym (ap (λ (n : ℕ). getD (set ks i k) n nobody) e ∙ getD-set-same ks i k nobody lt)) (same e)
-    | inr ne ↦ subst F (sym (getD-set-other ks i j k nobody ne)) (other ne) ]
+      | inl e ↦ subst F (sym (ap (λ (n : ℕ). getD (set ks i k) n nobody) e ∙ getD-set-same ks i k nobody lt)) (same e)
+      | inr ne ↦ subst F (sym (getD-set-other ks i j k nobody ne)) (other ne)
+    ]
 
 -- the part of thread i has changed, and the memory has grown
 pub record Changed (r : Run) (i : ℕ) (p : Part) : Type 0 where
@@ -82,17 +83,17 @@ pub record Changed (r : Run) (i : ℕ) (p : Part) : Type 0 where
 
 pub good-part : (r : Run) (i : ℕ) (p : Part) → i < length (r .threads) → Good r → Changed r i p → Good (with-part r i p)
 good-part r i p lt g c = record {
-    few = g .few;
-    small = let a = g .small in let b = c .capacity in omega arith;
-    room = let a = c .room in let b = c .capacity in omega arith;
-    prints = c .prints;
-    marks = λ j. at-set (r .threads) i j (p .thread) (λ y. Marks (y .owed) (p .memory)) lt (λ _. c .marks)
+  few = g .few;
+  small = let a = g .small in let b = c .capacity in omega arith;
+  room = let a = c .room in let b = c .capacity in omega arith;
+  prints = c .prints;
+  marks = λ j. at-set (r .threads) i j (p .thread) (λ y. Marks (y .owed) (p .memory)) lt (λ _. c .marks)
       (λ _. subst (Marks (thread-at r j .owed)) (sym (c .memory)) (g .marks j .0, bare-more (thread-at r j .owed) (r .memory) (c .more) (g .marks j .1)));
-    fit = λ j. at-set (r .threads) i j (p .thread) (λ y. Fit (p .memory) (y .views)) lt (λ _. c .holds .fit)
+  fit = λ j. at-set (r .threads) i j (p .thread) (λ y. Fit (p .memory) (y .views)) lt (λ _. c .holds .fit)
       (λ _. subst (λ (ms : List Message). Fit ms (thread-at r j .views)) (sym (c .memory)) (fit-more (r .memory) (c .more) (thread-at r j .views) (g .fit j)));
-    sc = c .holds .sc;
-    sane = c .holds .sane;
-  }
+  sc = c .holds .sc;
+  sane = c .holds .sane;
+}
 
 -- in every memory that has ms, and with every S, the thread can come to owe nothing
 abbrev pub Safe : ℕ → Lone → List Message → Type 0
@@ -104,7 +105,7 @@ idle l k ms e big h S = (k, S, big, done, e)
 safe-more : (l : ℕ) (k : Thread) (ms xs : List Message) → Bare (k .owed) ms → Safe l (lone k ms) ms → Safe l (lone k (ms ++ xs)) (ms ++ xs)
 safe-more l k ms xs bare h big w S =
     subst (λ (os : List Message). Can-keep l (record { does = k .does; views = k .views; owed = os }) S big) (sym (marked-more (k .owed) ms xs bare))
-      (h big (λ m i. w m (in-left m ms xs i)) S)
+    (h big (λ m i. w m (in-left m ms xs i)) S)
 
 -- each thread that is not busy is safe
 abbrev pub Calm : (ℕ → Type 0) → Run → Type 0
@@ -113,8 +114,8 @@ Calm Busy r = (j : ℕ) → (Busy j → ⊥) → Safe (r .locations) (lone-at r 
 calm-part : (r : Run) (i : ℕ) (p : Part) → i < length (r .threads) → Good r → Changed r i p → Calm (λ j. j ≡ i) r → Calm (λ j. j ≡ i) (with-part r i p)
 calm-part r i p lt g c h j ne =
     at-set (r .threads) i j (p .thread) (λ y. Safe (r .locations) (lone y (p .memory)) (p .memory)) lt (λ e. absurd (ne e))
-      (λ _. subst (λ (ms : List Message). Safe (r .locations) (lone (thread-at r j) ms) ms) (sym (c .memory))
-        (safe-more (r .locations) (thread-at r j) (r .memory) (c .more) (g .marks j .1) (h j ne)))
+    (λ _. subst (λ (ms : List Message). Safe (r .locations) (lone (thread-at r j) ms) ms) (sym (c .memory))
+    (safe-more (r .locations) (thread-at r j) (r .memory) (c .more) (g .marks j .1) (h j ne)))
 
 -- a showing: what is put back is good and calm, and the thread came from what it was by steps above the line
 pub record Shows (r : Run) (i : ℕ) (s : Saved) (cl : View) : Type 0 where
@@ -189,10 +190,10 @@ show-part r i s cl line p h owing a =
       prints = let e = ap length (c .log) in let f = length-append (r .log) (c .said) in let g = h .prints in omega arith;
       line = h .line ∙ ap closing-line (sym base);
       steps =
-        subst (λ (ms : List Message). Shown (r .locations) cl (lone (s .thread) ms) (s .sc) ms (lone (getD (set (r .threads) i (p .thread)) i nobody) (p .memory)) (p .sc) (p .memory)) (sym base)
+          subst (λ (ms : List Message). Shown (r .locations) cl (lone (s .thread) ms) (s .sc) ms (lone (getD (set (r .threads) i (p .thread)) i nobody) (p .memory)) (p .sc) (p .memory)) (sym base)
           (subst (λ (k : Thread). Shown (r .locations) cl (lone (s .thread) (take (s .messages) (r .memory))) (s .sc) (take (s .messages) (r .memory)) (lone k (p .memory)) (p .sc) (p .memory))
-            (sym (getD-set-same (r .threads) i (p .thread) nobody (h .mine)))
-            (more (h .steps) (something (thread-at r i .owed) (r .memory) (h .good .marks i .1) owing) (a .step)));
+          (sym (getD-set-same (r .threads) i (p .thread) nobody (h .mine)))
+          (more (h .steps) (something (thread-at r i .owed) (r .memory) (h .good .marks i .1) owing) (a .step)));
     }
 
 when-lifted : (r : Run) (i : ℕ) (F : Part → Type 0) (B : Run → Type 0) (t : Tried Part) → When F t → ((p : Part) → F p → B (with-part r i p)) → When B (lifted r i t)
@@ -206,12 +207,12 @@ act-sound : (r : Run) (line : Line) (ph : Phase) → r .phase ≡ ph → Sound-a
 act-sound r line between e h = tt
 act-sound r line (turn i) e h =
     when-lifted r i (λ p. Acted (r .locations) i None line (part-at r i) p) Sound (act-result (r .locations) i None line (part-at r i)) (acting r i None line (h .1))
-      (λ p a. subst (Sound-at (with-part r i p)) (sym e) (turn-part r i p h (acted-changed r i None line p (h .1) a)))
+    (λ p a. subst (Sound-at (with-part r i p)) (sym e) (turn-part r i p h (acted-changed r i None line p (h .1) a)))
 act-sound r line (showing i s cl) e h =
     cond-both (none-owed (thread-at r i .owed)) (refused Moment) (lifted r i (act-result (r .locations) i (Some cl) line (part-at r i))) (When Sound)
-      (λ _. tt)
-      (λ owing. when-lifted r i (λ p. Acted (r .locations) i (Some cl) line (part-at r i) p) Sound (act-result (r .locations) i (Some cl) line (part-at r i)) (acting r i (Some cl) line (h .good))
-        (λ p a. subst (Sound-at (with-part r i p)) (sym e) (show-part r i s cl line p h owing a)))
+    (λ _. tt)
+    (λ owing. when-lifted r i (λ p. Acted (r .locations) i (Some cl) line (part-at r i) p) Sound (act-result (r .locations) i (Some cl) line (part-at r i)) (acting r i (Some cl) line (h .good))
+    (λ p a. subst (Sound-at (with-part r i p)) (sym e) (show-part r i s cl line p h owing a)))
 
 begin-sound : (r : Run) (i : ℕ) (ph : Phase) → i < length (r .threads) → Sound-at r ph → When Sound (begin-in r i ph)
 begin-sound r i between lt h = (lt, good-phase r (turn i) (h .0), λ j ne. h .1 j (λ x. x))
@@ -221,12 +222,12 @@ begin-sound r i (showing j s cl) lt h = tt
 -- a promise
 pub record Promised (r : Run) (i x v f t : ℕ) (p : Part) : Type 0 where
   pub is : p ≡ record {
-      thread = owing (thread-at r i) (length (r .memory));
-      memory = r .memory ++ (promised-message (thread-at r i .views) x v f t ∷ []);
-      capacity = r .capacity;
-      sc = r .sc;
-      log = r .log;
-    }
+    thread = owing (thread-at r i) (length (r .memory));
+    memory = r .memory ++ (promised-message (thread-at r i .views) x v f t ∷ []);
+    capacity = r .capacity;
+    sc = r .sc;
+    log = r .log;
+  }
   pub new : at (thread-at r i .views .cur) x < t
   pub span : f < t
   pub free : Free x f t (r .memory)
@@ -238,24 +239,24 @@ promising r i x v f t =
     let m = promised-message (thread-at r i .views) x v f t in
     let k = owing (thread-at r i) (length (r .memory)) in
     cond-both (ltb (at c x) t) (unless (span-refusal None x f t (r .memory)) (adds (part-at r i) k m)) (refused TooNew) (When (Promised r i x v f t))
-      (λ less. spans (ltb-true (at c x) t less) (span-refusal None x f t (r .memory)) refl)
-      (λ _. tt)
+    (λ less. spans (ltb-true (at c x) t less) (span-refusal None x f t (r .memory)) refl)
+    (λ _. tt)
   where
     spans : at (thread-at r i .views .cur) x < t → (o : Option StepFault) → span-refusal None x f t (r .memory) ≡ o
         → When (Promised r i x v f t) (unless o (adds (part-at r i) (owing (thread-at r i) (length (r .memory))) (promised-message (thread-at r i .views) x v f t)))
     spans less None e =
         let ok = span-sound None x f t (r .memory) e in
         cond-both (ltb (length (r .memory)) (r .capacity))
-          (went (record {
-            thread = owing (thread-at r i) (length (r .memory));
-            memory = r .memory ++ (promised-message (thread-at r i .views) x v f t ∷ []);
-            capacity = r .capacity;
-            sc = r .sc;
-            log = r .log;
-          }))
-          (refused (Store Full)) (When (Promised r i x v f t))
-          (λ room. record { is = refl; new = less; span = ok .0; free = ok .1; room = ltb-true (length (r .memory)) (r .capacity) room })
-          (λ _. tt)
+        (went (record {
+          thread = owing (thread-at r i) (length (r .memory));
+          memory = r .memory ++ (promised-message (thread-at r i .views) x v f t ∷ []);
+          capacity = r .capacity;
+          sc = r .sc;
+          log = r .log;
+        }))
+        (refused (Store Full)) (When (Promised r i x v f t))
+        (λ room. record { is = refl; new = less; span = ok .0; free = ok .1; room = ltb-true (length (r .memory)) (r .capacity) room })
+        (λ _. tt)
     spans less (Some e) _ = tt
 
 pub promised-changed : (r : Run) (i x v f t : ℕ) (p : Part) → x < r .locations → Good r → Promised r i x v f t p → Changed r i p
@@ -267,33 +268,33 @@ promised-changed r i x v f t p here g a =
     let rel = g .fit i .ordered .rel x x in
     let new = a .new in
     let own : at (join (rel-at (k .views) x) (single x t)) x ≡ t =
-      let b = at-join (rel-at (k .views) x) (single x t) x in let d = at-single x t (omega arith) in omega arith in
+    let b = at-join (rel-at (k .views) x) (single x t) x in let d = at-single x t (omega arith) in omega arith in
     let known : Known (ms ++ (m ∷ [])) (join (rel-at (k .views) x) (single x t)) =
-      known-join (ms ++ (m ∷ [])) (rel-at (k .views) x) (single x t) (known-more ms (m ∷ []) (rel-at (k .views) x) (g .fit i .known .rel x)) (known-single (ms ++ (m ∷ [])) m (in-last m ms)) in
+    known-join (ms ++ (m ∷ [])) (rel-at (k .views) x) (single x t) (known-more ms (m ∷ []) (rel-at (k .views) x) (g .fit i .known .rel x)) (known-single (ms ++ (m ∷ [])) m (in-last m ms)) in
     let marks : Marks (set (k .owed) (length ms) true) (ms ++ (m ∷ [])) = marks-promise (k .owed) ms m (g .marks i) in
     subst (Changed r i) (sym (a .is))
-      (record {
-        more = m ∷ [];
-        memory = refl;
-        capacity = refl;
-        marks = marks;
-        holds = record {
-          fit = fit-more ms (m ∷ []) (k .views) (g .fit i);
-          sc = known-more ms (m ∷ []) (r .sc) (g .sc);
-          sane = sane-push ms m (g .sane) (omega arith) (a .span) own (a .free) known;
-          owed = λ n h. marked-in (set (k .owed) (length ms) true) (ms ++ (m ∷ [])) n h;
-        };
-        room = let b = length-push ms m in let d = a .room in omega arith;
-        prints = g .prints;
-        said = [];
-        log = sym (mathlib.Core.List.append-nil (r .log));
-      })
+    (record {
+      more = m ∷ [];
+      memory = refl;
+      capacity = refl;
+      marks = marks;
+      holds = record {
+        fit = fit-more ms (m ∷ []) (k .views) (g .fit i);
+        sc = known-more ms (m ∷ []) (r .sc) (g .sc);
+        sane = sane-push ms m (g .sane) (omega arith) (a .span) own (a .free) known;
+        owed = λ n h. marked-in (set (k .owed) (length ms) true) (ms ++ (m ∷ [])) n h;
+      };
+      room = let b = length-push ms m in let d = a .room in omega arith;
+      prints = g .prints;
+      said = [];
+      log = sym (mathlib.Core.List.append-nil (r .log));
+    })
 
 promise-sound : (r : Run) (x v f t : ℕ) (ph : Phase) → x < r .locations → r .phase ≡ ph → Sound-at r ph → When Sound (promise-in r x v f t ph)
 promise-sound r x v f t between here e h = tt
 promise-sound r x v f t (turn i) here e h =
     when-lifted r i (Promised r i x v f t) Sound (promise-result x v f t (part-at r i)) (promising r i x v f t)
-      (λ p a. subst (Sound-at (with-part r i p)) (sym e) (turn-part r i p h (promised-changed r i x v f t p here (h .1) a)))
+    (λ p a. subst (Sound-at (with-part r i p)) (sym e) (turn-part r i p h (promised-changed r i x v f t p here (h .1) a)))
 promise-sound r x v f t (showing i s cl) here e h = tt
 
 -- X: what would be put back is the run as it is
@@ -312,16 +313,16 @@ show-sound r (turn i) h =
     let same = shown-back r i ph in
     let base : take (length (r .memory)) (r .memory) ≡ r .memory = ap (λ (q : Run). q .memory) same in
     cond-both (none-owed (thread-at r i .owed)) (refused Moment) (went (in-phase r ph)) (When Sound) (λ _. tt)
-      (λ _. record {
-        mine = h .0;
-        good = good-phase r ph (h .1);
-        back = subst Good (sym same) (good-phase r (turn i) (h .1));
-        calm = subst (Calm (λ j. j ≡ i)) (sym same) (h .2);
-        messages = omega arith;
-        prints = omega arith;
-        line = ap closing-line (sym base);
-        steps = subst (λ (ms : List Message). Shown (r .locations) cl (lone (thread-at r i) ms) (r .sc) ms (lone-at r i) (r .sc) (r .memory)) (sym base) start;
-      })
+    (λ _. record {
+      mine = h .0;
+      good = good-phase r ph (h .1);
+      back = subst Good (sym same) (good-phase r (turn i) (h .1));
+      calm = subst (Calm (λ j. j ≡ i)) (sym same) (h .2);
+      messages = omega arith;
+      prints = omega arith;
+      line = ap closing-line (sym base);
+      steps = subst (λ (ms : List Message). Shown (r .locations) cl (lone (thread-at r i) ms) (r .sc) ms (lone-at r i) (r .sc) (r .memory)) (sym base) start;
+    })
 show-sound r (showing i s cl) h = tt
 
 pub at-closing : (ms : List Message) (x : ℕ) → x < 8 → at (closing-line ms) x ≡ greatest-end x ms
@@ -343,36 +344,38 @@ end-sound : (r : Run) (ph : Phase) → Sound-at r ph → When Sound (end-in r ph
 end-sound r between h = tt
 end-sound r (turn i) h =
     cond-both (none-owed (thread-at r i .owed)) (went (in-phase r between)) (refused StillOwing) (When Sound)
-      (λ o. (good-phase r between (h .1), calm-all r i (h .2) (idle (r .locations) (lone-at r i) (r .memory) (nothing (thread-at r i .owed) (r .memory) o)))) (λ _. tt)
+    (λ o. (good-phase r between (h .1), calm-all r i (h .2) (idle (r .locations) (lone-at r i) (r .memory) (nothing (thread-at r i .owed) (r .memory) o)))) (λ _. tt)
 end-sound r (showing i s cl) h =
     let q : Run = put-back r i s in
     let base = take (s .messages) (r .memory) in
     let is : thread-at q i ≡ s .thread = getD-set-same (r .threads) i (s .thread) nobody (h .mine) in
     let sane : Sane base = h .back .sane in
     cond-both (none-owed (thread-at r i .owed)) (went (in-phase q between)) (refused StillOwing) (When Sound)
-      (λ o. (good-phase q between (h .back),
-        calm-all q i (h .calm)
+    (λ o. (
+      good-phase q between (h .back),
+      calm-all q i (h .calm)
           (λ big w. shown (r .locations) cl base big w sane
-            (λ m j. let a = greatest-end-bound (m .location) base m j refl in
-              let b = at-closing base (m .location) (sane .placed m j) in
-              let e : at cl (m .location) ≡ at (closing-line base) (m .location) = ap (λ (v : View). at v (m .location)) (h .line) in
-              omega arith)
-            (holds-at q i (h .back))
-            (subst (λ (k : Thread). Shown (r .locations) cl (lone k base) (s .sc) base (lone-at r i) (r .sc) (r .memory)) (sym is) (h .steps))
-            (nothing (thread-at r i .owed) (r .memory) o))))
-      (λ _. tt)
+          (λ m j. let a = greatest-end-bound (m .location) base m j refl in
+          let b = at-closing base (m .location) (sane .placed m j) in
+          let e : at cl (m .location) ≡ at (closing-line base) (m .location) = ap (λ (v : View). at v (m .location)) (h .line) in
+          omega arith)
+          (holds-at q i (h .back))
+          (subst (λ (k : Thread). Shown (r .locations) cl (lone k base) (s .sc) base (lone-at r i) (r .sc) (r .memory)) (sym is) (h .steps))
+          (nothing (thread-at r i .owed) (r .memory) o)),
+    ))
+    (λ _. tt)
 
 pub line-sound : (line : Line) (r : Run) → Sound r → When Sound (line-result line r)
 line-sound (T i) r h =
     cond-both (ltb i (length (r .threads))) (begin-in r i (r .phase)) (refused Range) (When Sound)
-      (λ lt. begin-sound r i (r .phase) (ltb-true i (length (r .threads)) lt) h) (λ _. tt)
+    (λ lt. begin-sound r i (r .phase) (ltb-true i (length (r .threads)) lt) h) (λ _. tt)
 line-sound N r h = act-sound r N (r .phase) refl h
 line-sound (R t) r h = act-sound r (R t) (r .phase) refl h
 line-sound (W f t) r h = act-sound r (W f t) (r .phase) refl h
 line-sound (U f t) r h = act-sound r (U f t) (r .phase) refl h
 line-sound (G x v f t) r h =
     cond-both (ltb x (r .locations)) (promise-in r x v f t (r .phase)) (refused Range) (When Sound)
-      (λ lt. promise-sound r x v f t (r .phase) (ltb-true x (r .locations) lt) refl h) (λ _. tt)
+    (λ lt. promise-sound r x v f t (r .phase) (ltb-true x (r .locations) lt) refl h) (λ _. tt)
 line-sound (H t) r h = act-sound r (H t) (r .phase) refl h
 line-sound X r h = show-sound r (r .phase) h
 line-sound E r h = end-sound r (r .phase) h

@@ -54,9 +54,9 @@ abbrev pub update-of : ℕ → Thread → ℕ → ReadMode → WriteMode → ℕ
 update-of i k x o w f t ms None = []
 update-of i k x o w f t ms (Some j) =
     was-updated i f
-      (updated-message x (replaced (k .does [] .takes (message-at ms j .value))) f t (message-at ms j .view)
-        (update-views o w x f t (message-at ms j .view) (k .views)))
-      ∷ []
+    (updated-message x (replaced (k .does [] .takes (message-at ms j .value))) f t (message-at ms j .view)
+    (update-views o w x f t (message-at ms j .view) (k .views)))
+    ∷ []
 
 abbrev pub update-event : ℕ → Thread → ℕ → ℕ → List Message → Action → List Event
 update-event i k f t ms Silent = []

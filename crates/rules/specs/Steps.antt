@@ -52,23 +52,23 @@ pub data Step (r : Run) : Line → Run → Type 0 where
       → length M ≤ r .capacity
       → length (r .log ++ printed i (next-of (r .locations) (thread-at r i .does))) ≤ 64
       → Step r line (with-part r i (record {
-          thread = k;
-          memory = M;
-          capacity = r .capacity;
-          sc = S;
-          log = r .log ++ printed i (next-of (r .locations) (thread-at r i .does));
-        }))
+        thread = k;
+        memory = M;
+        capacity = r .capacity;
+        sc = S;
+        log = r .log ++ printed i (next-of (r .locations) (thread-at r i .does));
+      }))
   promises : (i x v f t : ℕ)
       → r .phase ≡ turn i → x < r .locations
       → at (thread-at r i .views .cur) x < t → f < t → Free x f t (r .memory)
       → length (r .memory) < r .capacity
       → Step r (G x v f t) (with-part r i (record {
-          thread = owing (thread-at r i) (length (r .memory));
-          memory = r .memory ++ (promised-message (thread-at r i .views) x v f t ∷ []);
-          capacity = r .capacity;
-          sc = r .sc;
-          log = r .log;
-        }))
+        thread = owing (thread-at r i) (length (r .memory));
+        memory = r .memory ++ (promised-message (thread-at r i .views) x v f t ∷ []);
+        capacity = r .capacity;
+        sc = r .sc;
+        log = r .log;
+      }))
   shows : (i : ℕ) → r .phase ≡ turn i → (Owes-nothing (lone-at r i) → ⊥)
       → Step r X (in-phase r (showing i (saved r i) (closing-line (r .memory))))
   ends-turn : (i : ℕ) → r .phase ≡ turn i → Owes-nothing (lone-at r i) → Step r E (in-phase r between)

@@ -1,6 +1,5 @@
 use Rattle.rules.proofs.laws.runs_are_lawful.Needs as need
-use Rattle.rules.proofs.Agrees.{agreement}
-use Rattle.rules.proofs.Past.{past}
+use Rattle.rules.proofs.Lawfulness.{lawful}
 
 pub returns : need.returns
-returns c = λ h. h
+returns c = lawful
