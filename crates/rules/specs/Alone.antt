@@ -18,8 +18,7 @@ use Rattle.stores.specs.declared.message.Message.{Message}
 use Rattle.stores.specs.Views.{at, join}
 use Rattle.stores.specs.StoreLaws.{In, Free}
 use Rattle.rules.specs.Models.{Views, Thread}
-use Rattle.rules.specs.Threads.{next-of, reads, read-views, write-views, acquire-views, release-views, both-views, all-views, marked}
-use Rattle.rules.specs.Rules.{written, updated-message, update-views}
+use Rattle.rules.specs.Threads.{next-of, reads, read-views, write-views, update-views, written, updated-message, acquire-views, release-views, both-views, all-views, marked}
 
 -- a thread by itself: what it does, its views, and the promises that it owes
 pub record Lone : Type 0 where
