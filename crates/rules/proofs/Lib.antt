@@ -8,3 +8,4 @@ pub mod Complete
 pub mod Agrees
 pub mod Past
 pub mod Lawfulness
+pub mod Played
