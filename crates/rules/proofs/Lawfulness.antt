@@ -23,7 +23,7 @@ use Rattle.rules.specs.Threads.{marked}
 use Rattle.rules.specs.Rules.{Tried, went, refused, initial, initials, new-run, made}
 use Rattle.rules.specs.Alone.{lone, Within, done}
 use Rattle.rules.specs.Steps.{lone-at, Marks}
-use Rattle.rules.specs.Histories.{Event, Place, nowhere, turn-of, showing-of, placed, history, played, messages, present, owes-after, undone-in, undone, place-of}
+use Rattle.rules.specs.Histories.{Event, Place, no-turn, turn-of, showing-of, placed, history, played, messages, present, owes-after, undone-in, undone, place-of}
 use Rattle.rules.specs.Laws.{Well-formed, Apart, Lawful, Runs-are-lawful}
 use Rattle.rules.proofs.Members.{in-push, apart-push}
 use Rattle.rules.proofs.Marked.{none-marked}
@@ -92,14 +92,14 @@ module _ (bs : List Behaviour) (n l capacity : ℕ) (few : l ≤ 8) (room : l �
   zero-cur : (j x : ℕ) → 0 ≤ at (thread-at first j .views .cur) x
   zero-cur j x = omega arith
 
-  new-lawful : (lines : List Line) → Lawful l (played (new-run bs n l capacity) lines) (placed nowhere (new-run bs n l capacity) lines) (history nowhere (new-run bs n l capacity) lines)
+  new-lawful : (lines : List Line) → Lawful l (played (new-run bs n l capacity) lines) (placed no-turn (new-run bs n l capacity) lines) (history no-turn (new-run bs n l capacity) lines)
   new-lawful lines =
       let r = played first lines in
-      let es = history nowhere first lines in
-      let b = past nowhere first lines refl new-sound in
+      let es = history no-turn first lines in
+      let b = past no-turn first lines refl new-sound in
       let s = played-sound first lines new-sound in
       let g = sound-good r s in
-      let place = played-place nowhere first lines refl in
+      let place = played-place no-turn first lines refl in
       record {
         locations = b .locations;
         agreement = agreement r g;
@@ -117,12 +117,12 @@ module _ (bs : List Behaviour) (n l capacity : ℕ) (few : l ≤ 8) (room : l �
         ordered = λ i. g .fit i .ordered;
       }
     where
-      calm : (r : Run) (ph : Phase) → Sound-at r ph → place-of ph ≡ nowhere → Calm (λ j. ⊥) r × (undone-in r ph ≡ r)
+      calm : (r : Run) (ph : Phase) → Sound-at r ph → place-of ph ≡ no-turn → Calm (λ j. ⊥) r × (undone-in r ph ≡ r)
       calm r between h e = (h .1, refl)
       calm r (turn i) h e = let z : _≡_ {A = ℕ} 0 1 = cc in absurd (omega arith)
       calm r (showing i s cl) h e = let z : _≡_ {A = ℕ} 0 1 = cc in absurd (omega arith)
 
-      kept : (r : Run) (es : List Event) → Sound r → place-of (r .phase) ≡ nowhere → Past first r es
+      kept : (r : Run) (es : List Event) → Sound r → place-of (r .phase) ≡ no-turn → Past first r es
           → (i : ℕ) (M : List Message) → Within (present (r .locations) es) M → Rattle.rules.specs.Alone.Can-keep (r .locations) (lone-at r i) (r .sc) M
       kept r es s e b i M w =
           let c = calm r (r .phase) s e in
@@ -142,5 +142,5 @@ made-is bs n l capacity =
 pub lawful : Runs-are-lawful
 lawful bs n l capacity small r e lines =
     let h = subst (When (λ q. (q ≡ new-run bs n l capacity) × (l ≤ 8) × (l ≤ capacity))) e (made-is bs n l capacity) in
-    subst (λ (q : Run). Lawful l (played q lines) (placed nowhere q lines) (history nowhere q lines)) (sym (h .0))
+    subst (λ (q : Run). Lawful l (played q lines) (placed no-turn q lines) (history no-turn q lines)) (sym (h .0))
     (new-lawful bs n l capacity (h .1) (h .2) small lines)

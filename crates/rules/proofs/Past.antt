@@ -28,7 +28,7 @@ use Rattle.rules.specs.Threads.{next-of, marked, none-owed, read-cur, write-vi
 use Rattle.rules.specs.Rules.{Tried, went, refused, message-at, written, updated-message, update-views, promised-message, promise-result, act-result, lifted, act-in, promise-in, begin-in, closing-line, saved, show-in, put-back, end-in, line-result}
 use Rattle.rules.specs.Alone.{Lone, lone, Alone, silent, acquire-fence, release-fence, both-fence, sequential-fence, print, read, write, update, keep}
 use Rattle.rules.specs.Steps.{lone-at}
-use Rattle.rules.specs.Histories.{Event, was-read, was-written, was-updated, was-promised, was-kept, read-event, write-event, replaced, update-of, update-event, keep-event, event, Place, nowhere, turn-of, showing-of, shows-at, moves, moved, place-of, event-in, counted, settled, played, placed, history, messages, without, owes-after, if-this, times, updates, undone-in, undone}
+use Rattle.rules.specs.Histories.{Event, was-read, was-written, was-updated, was-promised, was-kept, read-event, write-event, replaced, update-of, update-event, keep-event, event, Place, no-turn, turn-of, showing-of, shows-at, moves, moved, place-of, event-in, counted, settled, played, placed, history, messages, without, owes-after, if-this, times, updates, undone-in, undone}
 use Rattle.rules.specs.Laws.{Is-in, Distinct, Rising-from, Apart}
 use Rattle.rules.proofs.Members.{in-left, in-last}
 use Rattle.rules.proofs.Marked.{marked-more, marked-promise, apart-marked, without-one}

@@ -90,12 +90,12 @@ event i E r = []
 
 -- where accepted lines have led: between turns, in a turn of a thread, or in a showing of it
 pub data Place : Type 0 where
-  nowhere : Place
+  no-turn : Place
   turn-of : ℕ → Place
   showing-of : ℕ → Place
 
 abbrev pub shows-at : Place → Place
-shows-at nowhere = nowhere
+shows-at no-turn = no-turn
 shows-at (turn-of i) = showing-of i
 shows-at (showing-of i) = showing-of i
 
@@ -109,7 +109,7 @@ moves a (U f t) = a
 moves a (G x v f t) = a
 moves a (H t) = a
 moves a X = shows-at a
-moves a E = nowhere
+moves a E = no-turn
 
 abbrev pub moved : Place → Line → Tried Run → Place
 moved a line (went r) = moves a line
@@ -117,7 +117,7 @@ moved a line (refused e) = a
 
 -- only lines outside showings count
 abbrev pub event-in : Place → Line → Run → List Event
-event-in nowhere line r = []
+event-in no-turn line r = []
 event-in (turn-of i) line r = event i line r
 event-in (showing-of i) line r = []
 
@@ -207,6 +207,6 @@ undone r = undone-in r (r .phase)
 
 -- where a run is by its phase
 abbrev pub place-of : Phase → Place
-place-of between = nowhere
+place-of between = no-turn
 place-of (turn i) = turn-of i
 place-of (showing i s closing) = showing-of i

@@ -14,7 +14,7 @@ use Rattle.rules.specs.Threads.{rel-at}
 use Rattle.rules.specs.Rules.{Tried, went, line-result, made, initial}
 use Rattle.rules.specs.Alone.{Within, Can-keep}
 use Rattle.rules.specs.Steps.{Step, lone-at}
-use Rattle.rules.specs.Histories.{Event, Place, nowhere, placed, history, played, present, owes-after, times, updates, undone, place-of}
+use Rattle.rules.specs.Histories.{Event, Place, no-turn, placed, history, played, present, owes-after, times, updates, undone, place-of}
 
 -- a line is accepted, and leads to a run, exactly when the rules have that step
 abbrev pub Agreement : Run → Type 0
@@ -23,7 +23,7 @@ Agreement r = (line : Line) (r′ : Run) → (line-result line r ≡ went r′ �
 -- between turns each thread can by itself come to owe nothing, in every memory that has the present messages
 abbrev pub Promises-can-be-kept : Run → Place → List Event → Type 0
 Promises-can-be-kept r a es =
-    a ≡ nowhere → (i : ℕ) → (M : List Message) → Within (present (r .locations) es) M → Can-keep (r .locations) (lone-at r i) (r .sc) M
+    a ≡ no-turn → (i : ℕ) → (M : List Message) → Within (present (r .locations) es) M → Can-keep (r .locations) (lone-at r i) (r .sc) M
 
 abbrev pub Is-in : (ℕ × ℕ) → List (ℕ × ℕ) → Type 0
 Is-in p [] = ⊥
@@ -96,4 +96,4 @@ pub record Lawful (l : ℕ) (r : Run) (a : Place) (es : List Event) : Type 0 whe
 abbrev pub Runs-are-lawful : Type 0
 Runs-are-lawful =
     (bs : List Behaviour) (n l capacity : ℕ) → capacity ≤ 64 → (r : Run) → made bs n l capacity ≡ went r
-    → (lines : List Line) → Lawful l (played r lines) (placed nowhere r lines) (history nowhere r lines)
+    → (lines : List Line) → Lawful l (played r lines) (placed no-turn r lines) (history no-turn r lines)
