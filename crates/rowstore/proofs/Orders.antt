@@ -1,5 +1,5 @@
 -- The rows of a list of messages answer as the list does.
-use mathlib.Core.Path.{_≡_, refl, sym, ap, subst, _∙_}
+use mathlib.Core.Path.{_≡_, refl, sym, ap, _∙_}
 use mathlib.Core.List.{List, [], _∷_, _++_}
 use mathlib.Core.Logic.{inl, inr}
 use mathlib.Core.Bool.{Bool, true, false, not, cond, _&&_}
@@ -8,7 +8,6 @@ use native.Mathlib.Omega.{arith}
 use lib.Dec.{eqb}
 use lib.ListN.{length, take}
 use Rattle.std.specs.shelf.Lists.{All}
-use Rattle.std.proofs.shelf.Elements.{all-weaker}
 use Rattle.std.proofs.shelf.Tests.{cond-true, cond-false, eq-eqb, ne-eqb, cases-eq, cond-both, and-left}
 use Rattle.std.specs.declared.option.Option.{Option}
 use Rattle.std.specs.declared.option.Option.the-variants.{Some, None}
@@ -18,7 +17,7 @@ use Rattle.rowstore.specs.declared.entry.Entry.{Entry}
 use Rattle.rowstore.specs.Entries.{In-order, placed, number-at, clear, last-end, earlier}
 use Rattle.rowstore.specs.Tables.{row-of, entry-of}
 use Rattle.rowstore.specs.Ordered.{ordered-from, ordered, fields}
-use Rattle.rowstore.proofs.Placed.{Up, up-order, up-placed, all-placed, length-placed, or-else, number-at-placed, clear-placed, last-end-placed, earlier-placed, earlier-all}
+use Rattle.rowstore.proofs.Placed.{Up, up-order, up-placed, all-placed, length-placed, or-else, or-none, number-at-placed, clear-placed, last-end-placed, earlier-placed, earlier-all}
 
 abbrev entry : ℕ → ℕ → ℕ → ℕ → Entry
 entry l f t n = record { location = l; from = f; to = t; number = n }
@@ -107,18 +106,14 @@ module _ (x t : ℕ) where
   or-more true k None r = refl
   or-more false k None r = refl
 
-  or-nothing : (o : Option ℕ) → or-else o None ≡ o
-  or-nothing None = refl
-  or-nothing (Some k) = refl
-
   number-at-taken : (m : Message) (k : ℕ) (es : List Entry) → Up es → number-at x t (taken (row-of x) m k es) ≡ or-else (number-at x t es) (cond (ends-at x t m) (Some k) None)
   number-at-taken m k es u = elim (cases-eq (row-of (m .location)) (row-of x)) [
     | inl e ↦ ap (number-at x t) (cond-true _ _ _ (eq-eqb _ _ e)) ∙ number-at-placed x t (entry-of m k) es u
-    | inr e ↦ ap (number-at x t) (cond-false _ _ _ (ne-eqb _ _ e)) ∙ sym (or-nothing (number-at x t es)) ∙ ap (or-else (number-at x t es)) (sym (cond-false _ _ _ (and-left _ _ (elsewhere x m e))))
+    | inr e ↦ ap (number-at x t) (cond-false _ _ _ (ne-eqb _ _ e)) ∙ or-none (number-at x t es) ∙ ap (or-else (number-at x t es)) (sym (cond-false _ _ _ (and-left _ _ (elsewhere x m e))))
   ]
 
   number-at-ordered-from : (k : ℕ) (ms : List Message) (es : List Entry) → Up es → number-at x t (ordered-from (row-of x) k ms es) ≡ or-else (number-at x t es) (find-from k x t ms)
-  number-at-ordered-from k [] es u = sym (or-nothing (number-at x t es))
+  number-at-ordered-from k [] es u = or-none (number-at x t es)
   number-at-ordered-from k (m ∷ ms) es u =
       number-at-ordered-from (k + 1) ms (taken (row-of x) m k es) (up-taken (row-of x) m k es u) ∙ ap (λ o. or-else o (find-from (k + 1) x t ms)) (number-at-taken m k es u) ∙ or-more (ends-at x t m) k (number-at x t es) (find-from (k + 1) x t ms)
 

@@ -5,7 +5,7 @@ use mathlib.Core.Logic.{inl, inr}
 use mathlib.Core.Bool.{Bool, true, false, not, cond, _&&_}
 use Prim.Native.Nat.{ℕ, zero, suc, _+_, _-_, _<_, _≤_, max}
 use native.Mathlib.Omega.{arith}
-use lib.Dec.{eqb, ltb, leb}
+use lib.Dec.{eqb, ltb}
 use lib.ListN.{length, getD, set, take, drop, length-take, length-drop}
 use lib.Seq.{paste, take-paste, take-set-lt}
 use Rattle.std.specs.shelf.Lists.{All, inserted}
@@ -13,7 +13,7 @@ use Rattle.std.proofs.shelf.Elements.{all-weaker, all-getD}
 use Rattle.std.proofs.shelf.Lists.{take-more, take-take, set-at}
 use Rattle.std.proofs.shelf.Parts.{between-is}
 use Rattle.std.proofs.shelf.Sums.{leading-le-length}
-use Rattle.std.proofs.shelf.Tests.{cond-true, cond-false, eq-eqb, ne-eqb, lt-ltb, le-ltb, le-leb, lt-leb, cases-lt, eqb-true, and-parts, cases-bool}
+use Rattle.std.proofs.shelf.Tests.{cond-true, cond-false, lt-ltb, le-ltb, le-leb, lt-leb, cases-lt, eqb-true, and-parts, cases-bool}
 use Rattle.std.specs.declared.option.Option.{Option}
 use Rattle.std.specs.declared.option.Option.the-variants.{Some, None}
 use Rattle.rowstore.specs.declared.entry.Entry.{Entry}
@@ -80,7 +80,7 @@ abbrev pub or-else : Option ℕ → Option ℕ → Option ℕ
 or-else None r = r
 or-else (Some k) r = Some k
 
-or-none : (o : Option ℕ) → o ≡ or-else o None
+pub or-none : (o : Option ℕ) → o ≡ or-else o None
 or-none None = refl
 or-none (Some k) = refl
 

@@ -1,10 +1,10 @@
 -- What an index says of the messages, and how it goes on.
-use mathlib.Core.Path.{_≡_, refl, sym, ap, subst, _∙_}
+use mathlib.Core.Path.{_≡_, sym, ap, subst, _∙_}
 use mathlib.Core.List.{List, [], _∷_, _++_}
 use mathlib.Core.Logic.{inl, inr}
 use Prim.Native.Nat.{ℕ, _+_, _-_, _<_, _≤_}
 use native.Mathlib.Omega.{arith}
-use lib.ListN.{length, getD, set, take, drop, length-take, length-drop, length-set}
+use lib.ListN.{length, take, drop, length-take, length-drop, length-set}
 use lib.Seq.{paste, length-paste}
 use Rattle.std.proofs.shelf.Lists.{getD-set-same, getD-set-other}
 use Rattle.std.proofs.shelf.Tests.{cond-true, cond-false, eq-eqb, ne-eqb, le-ltb, cases-eq, cases-lt}
@@ -14,7 +14,6 @@ use Rattle.stores.specs.declared.kept.StoreFault.{StoreFault}
 use Rattle.stores.specs.declared.kept.StoreFault.the-variants.{Full}
 use Rattle.stores.specs.declared.message.Message.{Message}
 use Rattle.stores.specs.Memory.{find, is-free, greatest-end, add-answer}
-use Rattle.rowstore.specs.declared.entry.Entry.{Entry}
 use Rattle.rowstore.specs.declared.row.Row.{Row}
 use Rattle.rowstore.specs.declared.index.Index.{Index}
 use Rattle.rowstore.specs.Entries.{Well-formed, In-order, listed, placed, before, number-at, clear, last-end, with-entry, earlier}

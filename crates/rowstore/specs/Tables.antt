@@ -1,6 +1,5 @@
 -- The nine rows of an index.
 use mathlib.Core.Path.{_≡_}
-use mathlib.Core.List.{[]}
 use Prim.Native.Nat.{ℕ, _≤_, min}
 use lib.ListN.{length, getD, set, replicate}
 use Rattle.stores.specs.declared.message.Message.{Message}

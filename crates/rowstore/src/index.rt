@@ -1,6 +1,6 @@
 // The rows of all messages, with no invariant of their own: one of them can be lent from here.
 ghost use mathlib.Core.Path.{_≡_};
-ghost use Prim.Native.Nat.{ℕ, _<_, min};
+ghost use Prim.Native.Nat.{ℕ, _<_};
 ghost use lib.ListN.{length};
 ghost use Rattle.rowstore.specs.Entries.{Well-formed};
 ghost use Rattle.rowstore.specs.Tables.{row-of, row-at, with-message, empty, Kept-below};
