@@ -27,7 +27,7 @@ fn row_of(location: u8) -> usize
 }
 
 impl Index {
-    pub fn new() -> Index
+    pub(crate) fn new() -> Index
         ensures { λ r. ⌜ r ≡ empty ⌝ }
     {
         let entry = Entry {
@@ -46,14 +46,14 @@ impl Index {
     }
 
     // the row of the location
-    pub fn row(&self, location: u8) -> &Row
+    pub(crate) fn row(&self, location: u8) -> &Row
         ensures { λ r. ⌜ now r ≡ row-at (now (self .entry)) (row-of location) ⌝ }
     {
         self.table.row(row_of(location))
     }
 
     // the message that arrived as that number goes into the row of its location
-    pub fn add(&mut self, message: Message, number: u8)
+    pub(crate) fn add(&mut self, message: Message, number: u8)
         requires formed { ⌜ Well-formed (row-at (now self) (row-of (message .location))) ⌝ }
         requires room { ⌜ row-at (now self) (row-of (message .location)) .len < 64 ⌝ }
         ensures after { λ _. ⌜ now (self .exit) ≡ with-message (now (self .entry)) message number ⌝ }
@@ -69,7 +69,7 @@ impl Index {
     }
 
     // drops the messages whose arrival number is n or more
-    pub fn keep(&mut self, n: usize)
+    pub(crate) fn keep(&mut self, n: usize)
         requires { ⌜ ((y : ℕ) → y < 9 → Well-formed (row-at (now self) y)) ⌝ }
         ensures { λ _. ⌜ ((y : ℕ) → y < 9 → Kept-below n (row-at (now (self .entry)) y) (row-at (now (self .exit)) y)) ⌝ }
     {

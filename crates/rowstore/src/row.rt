@@ -16,7 +16,7 @@ pub struct Row {
 
 impl Row {
     // how many entries end before the limit, by halving
-    pub fn before(&self, limit: u32) -> usize
+    pub(crate) fn before(&self, limit: u32) -> usize
         requires { ⌜ Well-formed (now self) ⌝ }
         ensures value { λ r. ⌜ r ≡ before limit (listed (now (self .entry))) ⌝ }
         ensures within { λ r. ⌜ r ≤ now (self .entry) .len ⌝ }
@@ -35,7 +35,7 @@ impl Row {
     }
 
     // the arrival number of the first entry of the location with that end
-    pub fn find(&self, location: u8, end: End) -> Option<usize>
+    pub(crate) fn find(&self, location: u8, end: End) -> Option<usize>
         requires { ⌜ Well-formed (now self) ⌝ }
         ensures { λ r. ⌜ r ≡ number-at location end (listed (now (self .entry))) ⌝ }
     {
@@ -52,7 +52,7 @@ impl Row {
     }
 
     // whether (from, to] overlaps no entry of the location
-    pub fn is_free(&self, location: u8, from: End, to: End) -> bool
+    pub(crate) fn is_free(&self, location: u8, from: End, to: End) -> bool
         requires { ⌜ Well-formed (now self) ⌝ }
         ensures { λ r. ⌜ r ≡ clear location from to (listed (now (self .entry))) ⌝ }
     {
@@ -66,7 +66,7 @@ impl Row {
     }
 
     // the end of the last entry of the location, else 0
-    pub fn greatest_end(&self, location: u8) -> End
+    pub(crate) fn greatest_end(&self, location: u8) -> End
         requires { ⌜ Well-formed (now self) ⌝ }
         ensures { λ r. ⌜ r ≡ last-end location (listed (now (self .entry))) ⌝ }
     {
@@ -80,7 +80,7 @@ impl Row {
     }
 
     // puts the entry after those that end no later
-    pub fn insert(&mut self, entry: Entry)
+    pub(crate) fn insert(&mut self, entry: Entry)
         requires { ⌜ Well-formed (now self) ⌝ }
         requires { ⌜ now self .len < 64 ⌝ }
         ensures { λ _. ⌜ now (self .exit) ≡ with-entry (now (self .entry)) entry ⌝ }
@@ -92,7 +92,7 @@ impl Row {
     }
 
     // drops the entries whose arrival number is n or more
-    pub fn keep(&mut self, n: usize)
+    pub(crate) fn keep(&mut self, n: usize)
         requires { ⌜ Well-formed (now self) ⌝ }
         ensures list { λ _. ⌜ listed (now (self .exit)) ≡ earlier n (listed (now (self .entry))) ⌝ }
         ensures whole { λ _. ⌜ length (now (self .exit) .entries) ≡ 64 ⌝ }

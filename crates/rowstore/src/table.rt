@@ -14,7 +14,7 @@ pub struct Table<R, const N: usize> {
 
 impl<R, const N: usize> Table<R, N> {
     // the table's row i is at the end what the lent row is at its end
-    pub fn row_mut(&mut self, i: usize) -> &mut R
+    pub(crate) fn row_mut(&mut self, i: usize) -> &mut R
         requires { ⌜ i < N ⌝ }
         ensures follows { λ r. sem 𝓤 H A (follows (table-row R·row N·row) R·row (name (self .entry)) (name r) (λ w. record { rows = set (now (self .entry) .rows) i w })) }
         ensures value { λ r. ⌜ ((d : R) → now r ≡ getD (now (self .entry) .rows) i d) ⌝ }
@@ -24,7 +24,7 @@ impl<R, const N: usize> Table<R, N> {
         &mut self.rows[i]
     }
 
-    pub fn row(&self, i: usize) -> &R
+    pub(crate) fn row(&self, i: usize) -> &R
         requires { ⌜ i < N ⌝ }
         ensures value { λ r. ⌜ ((d : R) → now r ≡ getD (now (self .entry) .rows) i d) ⌝ }
         ensures len { λ r. ⌜ length (now (self .entry) .rows) ≡ N ⌝ }
