@@ -23,11 +23,26 @@ pub enum FenceKind {
 #[derive(Clone, Copy)]
 pub enum Action {
     Silent,
-    Read { location: u8, mode: ReadMode },
-    Write { location: u8, value: u16, mode: WriteMode },
-    Update { location: u8, read: ReadMode, write: WriteMode },
-    Fence { kind: FenceKind },
-    Print { value: u16 },
+    Read {
+        location: u8,
+        mode: ReadMode,
+    },
+    Write {
+        location: u8,
+        value: u16,
+        mode: WriteMode,
+    },
+    Update {
+        location: u8,
+        read: ReadMode,
+        write: WriteMode,
+    },
+    Fence {
+        kind: FenceKind,
+    },
+    Print {
+        value: u16,
+    },
     Ended,
 }
 

@@ -6,13 +6,30 @@ use crate::action::WriteMode;
 #[derive(Clone, Copy)]
 pub enum StripLine {
     // R x v o: reads x, and takes only v
-    Read { location: u8, value: u16, mode: ReadMode },
+    Read {
+        location: u8,
+        value: u16,
+        mode: ReadMode,
+    },
     // S x v o: writes v to x
-    Store { location: u8, value: u16, mode: WriteMode },
+    Store {
+        location: u8,
+        value: u16,
+        mode: WriteMode,
+    },
     // U x v o p: adds v to x
-    FetchAdd { location: u8, value: u16, read: ReadMode, write: WriteMode },
+    FetchAdd {
+        location: u8,
+        value: u16,
+        read: ReadMode,
+        write: WriteMode,
+    },
     // F o
-    Fence { kind: FenceKind },
+    Fence {
+        kind: FenceKind,
+    },
     // P v: prints v
-    Print { value: u16 },
+    Print {
+        value: u16,
+    },
 }

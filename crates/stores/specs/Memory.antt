@@ -33,6 +33,11 @@ find-from k x t (m ∷ ms) = cond (ends-at x t m) (Some k) (find-from (k + 1) x 
 abbrev pub find : ℕ → ℕ → List Message → Option ℕ
 find x t ms = find-from 0 x t ms
 
+-- the arrival number of the first message at x that overlaps (f, t], where the list's first has number k
+abbrev pub overlap-from : ℕ → ℕ → ℕ → ℕ → List Message → Option ℕ
+overlap-from k x f t [] = None
+overlap-from k x f t (m ∷ ms) = cond (overlaps x f t m) (Some k) (overlap-from (k + 1) x f t ms)
+
 -- no message at x overlaps (f, t]
 abbrev pub is-free : ℕ → ℕ → ℕ → List Message → Bool
 is-free x f t [] = true

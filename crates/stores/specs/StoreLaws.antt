@@ -25,14 +25,11 @@ Overlaps x f t m = (m .location ≡ x) × (f < m .to) × (m .from < t)
 abbrev pub Free : ℕ → ℕ → ℕ → List Message → Type 0
 Free x f t ms = (m : Message) → In m ms → Overlaps x f t m → ⊥
 
--- an answered number is that of a message at x that ends at t, and no earlier one does; none is answered only if there is none
-abbrev pub Finds-by : ℕ → ℕ → List Message → Option ℕ → Type 0
-Finds-by x t ms None = (m : Message) → In m ms → Ends-at x t m → ⊥
-Finds-by x t ms (Some k) =
-    (k < length ms) × In (getD ms k zero-message) ms × Ends-at x t (getD ms k zero-message) × ((j : ℕ) → j < k → Ends-at x t (getD ms j zero-message) → ⊥)
-
+-- an answered number is that of a message at x that ends at t, and no earlier one does; none is answered only where no message does
 unfoldable pub Finds : ℕ → ℕ → List Message → Option ℕ → Type 0
-Finds x t ms answer = Finds-by x t ms answer
+Finds x t ms None = (m : Message) → In m ms → Ends-at x t m → ⊥
+Finds x t ms (Some k) =
+    (k < length ms) × In (getD ms k zero-message) ms × Ends-at x t (getD ms k zero-message) × ((j : ℕ) → j < k → Ends-at x t (getD ms j zero-message) → ⊥)
 
 -- e is at least every end at x, and is one of them or 0
 unfoldable pub Greatest : ℕ → List Message → ℕ → Type 0

@@ -8,7 +8,7 @@ pub struct Kept {
     pub message: Message,
 }
 
-#[derive(Clone, Copy)]
+#[derive(Clone, Copy, PartialEq, Eq, Debug)]
 pub enum StoreFault {
     Full,
 }

@@ -33,7 +33,11 @@ impl View {
     pub fn at(self, location: u8) -> End
         ensures { λ r. ⌜ r ≡ at self location ⌝ }
     {
-        if location < 8 { self.ends[location as usize] } else { 0 }
+        if location < 8 {
+            self.ends[location as usize]
+        } else {
+            0
+        }
     }
 
     pub fn join(self, other: View) -> View

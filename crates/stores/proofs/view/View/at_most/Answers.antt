@@ -21,11 +21,11 @@ returns-then-self-x c =
     let b = c .args .other .ends in
     let rest = ends-at-most (drop (c .loop-x .x + 1) a) (drop (c .loop-x .x + 1) b) in
     let e : false ≡ at-most (c .args .self) (c .args .other) =
-      sym (ap (λ t. t && rest) (lt-leb _ _ (c .if-self-x .taken))) ∙ sym (ends-at-most-more a b (c .loop-x .x) (omega arith) (omega arith)) ∙ c .loop-x .inv in
+    sym (ap (λ t. t && rest) (lt-leb _ _ (c .if-self-x .taken))) ∙ sym (ends-at-most-more a b (c .loop-x .x) (omega arith) (omega arith)) ∙ c .loop-x .inv in
     record { value = e; order = at-most-law _ _ _ e }
 
 pub returns : need.returns
 returns c =
     let e : true ≡ at-most (c .args .self) (c .args .other) =
-      sym (ends-at-most-end (c .args .self .ends) (c .args .other .ends) (c .loop-x .x) (omega arith)) ∙ c .loop-x .inv in
+    sym (ends-at-most-end (c .args .self .ends) (c .args .other .ends) (c .loop-x .x) (omega arith)) ∙ c .loop-x .inv in
     record { value = e; order = at-most-law _ _ _ e }

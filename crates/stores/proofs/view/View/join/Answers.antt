@@ -13,5 +13,5 @@ returns c =
     let b = c .args .other in
     let r : View = record { ends = c .loop-x .ends } in
     let e : r ≡ join a b =
-      ap (λ (l : List ℕ). record { ends = l }) (is-greater (c .loop-x .ends) (a .ends) (b .ends) (omega arith) (omega arith) (omega arith) (λ x h. c .loop-x .inv .1 x (omega arith))) in
+    ap (λ (l : List ℕ). record { ends = l }) (is-greater (c .loop-x .ends) (a .ends) (b .ends) (omega arith) (omega arith) (omega arith) (λ x h. c .loop-x .inv .1 x (omega arith))) in
     record { value = e; places = join-places a b r e; bound = join-law a b r e }

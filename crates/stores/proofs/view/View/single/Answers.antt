@@ -10,5 +10,5 @@ returns-then-location-lt8 c = record { value = refl; places = single-law _ _ _ r
 pub returns-else-location-lt8 : need.returns-else-location-lt8
 returns-else-location-lt8 c =
     let e : zero-view ≡ single (c .args .location) (c .args .end) =
-      sym (single-outside (c .args .location) (c .args .end) (c .if-location-lt8 .left)) in
+    sym (single-outside (c .args .location) (c .args .end) (c .if-location-lt8 .left)) in
     record { value = e; places = single-law _ _ _ e }
