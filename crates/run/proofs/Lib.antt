@@ -1,1 +1,4 @@
 pub mod ViewOrders
+pub mod Logs
+pub mod Marks
+pub mod Lines

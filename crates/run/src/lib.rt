@@ -1,6 +1,10 @@
 // A run: threads of any language on any store, line by line.
+mod accesses;
 mod closing;
 mod log;
 mod owed;
 pub mod parts;
+mod promises;
+pub mod state;
+mod steps;
 mod views;

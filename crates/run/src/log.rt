@@ -17,7 +17,10 @@ impl Log {
         ensures { λ r. ⌜ log-of r ≡ [] ⌝ }
     {
         Log {
-            prints: [Print { thread: 0, value: 0 }; 64],
+            prints: [Print {
+                thread: 0,
+                value: 0,
+            }; 64],
             len: 0,
         }
     }
@@ -45,7 +48,11 @@ impl Log {
     pub(crate) fn nth(&self, k: usize) -> Option<Print>
         ensures { λ r. ⌜ print-in r ≡ nth (log-of (now (self .entry))) k ⌝ }
     {
-        if k < self.len { Some(self.prints[k]) } else { None }
+        if k < self.len {
+            Some(self.prints[k])
+        } else {
+            None
+        }
     }
 
     // keeps only the first n prints

@@ -1,9 +1,11 @@
 // The messages that a thread owes.
 ghost use mathlib.Core.Path.{_≡_};
-ghost use mathlib.Core.Bool.{true, false};
+ghost use mathlib.Core.Bool.{true, false, _&&_};
 ghost use Prim.Native.Nat.{_<_};
+ghost use lib.Dec.{eqb};
 ghost use lib.ListN.{getD, set, replicate};
 ghost use Rattle.std.specs.Options.{Cases as BySome};
+ghost use Rattle.stores.specs.Memory.{ends-at};
 ghost use Rattle.rules.specs.Rules.{message-at};
 ghost use Rattle.rules.specs.Threads.{none-owed, owes-at, find-owed};
 use crate::parts::Owed;
@@ -56,12 +58,26 @@ impl Owed {
         self.marks[k] = false;
     }
 
+    // whether message k is owed and is of the location
+    fn owes_here<S: Store>(&self, store: &S, k: usize, location: u8) -> bool
+        ensures { λ r. ⌜ r ≡ (getD (now (self .entry) .marks) k false && eqb (message-at (S·Store .held (now (store .entry))) k .location) location) ⌝ }
+    {
+        self.is_owed(k) && message_at(store, k).location == location
+    }
+
+    // whether message k is owed, is of the location and has that end
+    fn owes_end<S: Store>(&self, store: &S, k: usize, location: u8, end: End) -> bool
+        ensures { λ r. ⌜ r ≡ (getD (now (self .entry) .marks) k false && ends-at location end (message-at (S·Store .held (now (store .entry))) k)) ⌝ }
+    {
+        self.is_owed(k) && message_at(store, k).ends_at(location, end)
+    }
+
     // whether a message of the location is owed
     pub(crate) fn owes_at<S: Store>(&self, store: &S, location: u8) -> bool
         ensures { λ r. ⌜ r ≡ owes-at location (now (self .entry) .marks) (S·Store .held (now (store .entry))) ⌝ }
     {
         for k in 0..store.len() {
-            if self.is_owed(k) && message_at(store, k).location == location {
+            if self.owes_here(store, k, location) {
                 return true;
             }
         }
@@ -74,7 +90,7 @@ impl Owed {
         ensures within { λ r. ⌜ BySome r (Unit {0}) (λ k. k < 64) ⌝ }
     {
         for k in 0..store.len() {
-            if self.is_owed(k) && message_at(store, k).ends_at(location, end) {
+            if self.owes_end(store, k, location, end) {
                 return Some(k);
             }
         }

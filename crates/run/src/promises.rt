@@ -1,0 +1,1 @@
+// Promises of one thread, made and kept.
