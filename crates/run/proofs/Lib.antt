@@ -2,3 +2,4 @@ pub mod ViewOrders
 pub mod Logs
 pub mod Marks
 pub mod Lines
+pub mod Lifts

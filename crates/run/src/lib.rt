@@ -7,4 +7,5 @@ pub mod parts;
 mod promises;
 pub mod state;
 mod steps;
+mod turns;
 mod views;
