@@ -7,5 +7,6 @@ pub mod parts;
 mod promises;
 pub mod state;
 mod steps;
+mod threads;
 mod turns;
 mod views;
