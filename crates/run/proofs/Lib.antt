@@ -3,3 +3,4 @@ pub mod Logs
 pub mod Marks
 pub mod Lines
 pub mod Lifts
+pub mod Moments

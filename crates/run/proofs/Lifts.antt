@@ -41,11 +41,13 @@ agrees-by {Y = Y} y r z e h = subst (λ (t : Tried Y). Agrees t y r z) (sym e) h
 pub lifts : (m : model.Run) (i : ℕ) (p′ : model.Part) (t : Tried model.Part) (r : Result (Unit {0}) StepFault)
     → Agrees t (part-at m i) r p′ → Agrees (lifted m i t) m r (with-part m i p′)
 lifts m i p′ (went q) r h = (h .0, ap (with-part m i) (h .1))
-lifts m i p′ (refused e) r h =
-    (h .0, ap (with-part m i) (h .1) ∙ ap
-        (λ (ks : List model.Thread).
-          record { locations = m .locations; threads = ks; memory = m .memory; capacity = m .capacity; sc = m .sc; log = m .log; phase = m .phase })
-        (set-getD (m .threads) i nobody))
+lifts m i p′ (refused e) r h = (
+  h .0,
+  ap (with-part m i) (h .1) ∙ ap
+      (λ (ks : List model.Thread).
+      record { locations = m .locations; threads = ks; memory = m .memory; capacity = m .capacity; sc = m .sc; log = m .log; phase = m .phase })
+      (set-getD (m .threads) i nobody),
+)
 
 module _ {L S : Type 0} (l : Language L) (s : Store S) (locations count : ℕ) where
   -- the run by its parts
@@ -76,23 +78,23 @@ module _ {L S : Type 0} (l : Language L) (s : Store S) (locations count : ℕ) w
       let m : model.Run = whole ths sh ph in
       let same : part-of l s (getD ths i d) sh ≡ part-at m i =
       ap
-        (λ (k : model.Thread).
-          record { thread = k; memory = s .held (sh .store); capacity = s .capacity (sh .store); sc = sh .sc; log = log-of (sh .log) })
-        (thread-read ths i d few lt) in
+      (λ (k : model.Thread).
+      record { thread = k; memory = s .held (sh .store); capacity = s .capacity (sh .store); sc = sh .sc; log = log-of (sh .log) })
+      (thread-read ths i d few lt) in
       let h′ : Agrees (rule (part-at m i)) (part-at m i) r (part-of l s th′ sh′) =
       subst (λ (p : model.Part). Agrees (rule p) p r (part-of l s th′ sh′)) same h in
       let done = lifts m i (part-of l s th′ sh′) (rule (part-at m i)) r h′ in
       let end : List model.Thread → model.Run =
       λ ks.
-        record {
-          locations = locations;
-          threads = ks;
-          memory = s .held (sh′ .store);
-          capacity = s .capacity (sh′ .store);
-          sc = sh′ .sc;
-          log = log-of (sh′ .log);
-          phase = ph;
-        } in
+      record {
+        locations = locations;
+        threads = ks;
+        memory = s .held (sh′ .store);
+        capacity = s .capacity (sh′ .store);
+        sc = sh′ .sc;
+        log = log-of (sh′ .log);
+        phase = ph;
+      } in
       subst (λ (ks : List model.Thread). Agrees (lifted m i (rule (part-at m i))) m r (end ks)) (sym (threads-set ths i th′)) done
 
   -- whether thread i owes nothing
@@ -108,12 +110,14 @@ module _ {L S : Type 0} (l : Language L) (s : Store S) (locations count : ℕ) w
       → i < length ths → owed-by ths i ≡ false → thread-of l copy ≡ thread-of l (getD ths i d) → n ≡ length (s .held (sh .store))
       → p ≡ length (log-of (sh .log)) → closing ≡ closing-line (s .held (sh .store))
       → Agrees (show-in (whole ths sh ph) (turn i)) (whole ths sh ph) (Ok tt)
-          (whole ths sh (showing i (record { thread = thread-of l copy; sc = sh .sc; messages = n; prints = p }) closing))
+      (whole ths sh (showing i (record { thread = thread-of l copy; sc = sh .sc; messages = n; prints = p }) closing))
   shown ths sh ph i d copy n p closing few lt b ek en ep ec =
-      agrees-by _ _ _ (cond-false _ _ _ b)
-        (refl, λ j.
-          whole ths sh
-            (showing i (record { thread = (ek ∙ thread-read ths i d few lt) j; sc = sh .sc; messages = en j; prints = ep j }) (ec j)))
+      agrees-by _ _ _ (cond-false _ _ _ b) (
+        refl,
+        λ j.
+            whole ths sh
+            (showing i (record { thread = (ek ∙ thread-read ths i d few lt) j; sc = sh .sc; messages = en j; prints = ep j }) (ec j)),
+      )
 
   abbrev ending : List (Thread L) → Shared S → Phase L → ℕ → Tried model.Run
   ending ths sh ph i = cond (owed-by ths i) (went (in-phase (undone (whole ths sh (phase-of l ph))) between)) (refused StillOwing)
@@ -131,7 +135,7 @@ module _ {L S : Type 0} (l : Language L) (s : Store S) (locations count : ℕ) w
       → Agrees (ending ths sh ph i) (whole ths sh (phase-of l ph)) (Ok tt) (whole ths sh (phase-of l ph′))
   ended-turn ths sh ph ph′ i h e′ b =
       agrees-by _ _ _ (cond-true _ _ _ b)
-        (refl, ap (λ (p : Phase L). whole ths sh (phase-of l p)) e′ ∙ ap (λ (r : model.Run). in-phase r between) (sym (not-showing ths sh ph h)))
+      (refl, ap (λ (p : Phase L). whole ths sh (phase-of l p)) e′ ∙ ap (λ (r : model.Run). in-phase r between) (sym (not-showing ths sh ph h)))
 
   -- the end of a showing
   pub ended-showing : (ths : List (Thread L)) (sh : Shared S) (ph ph′ : Phase L) (i f : ℕ) (sv : Saved L) (m′ : model.Run) → ph ≡ Showing f sv
@@ -143,7 +147,7 @@ module _ {L S : Type 0} (l : Language L) (s : Store S) (locations count : ℕ) w
       let same : f ≡ i = sym (ap whose e) ∙ w in
       let back : undone m ≡ put-back m i (saved-of l sv) = ap (λ (p : Phase L). undone (whole ths sh (phase-of l p))) e ∙ put same in
       agrees-by _ _ _ (cond-true _ _ _ b)
-        (refl, h ∙ ap (λ (p : Phase L). in-phase (put-back m i (saved-of l sv)) (phase-of l p)) e′ ∙ ap (λ (r : model.Run). in-phase r between) (sym back))
+      (refl, h ∙ ap (λ (p : Phase L). in-phase (put-back m i (saved-of l sv)) (phase-of l p)) e′ ∙ ap (λ (r : model.Run). in-phase r between) (sym back))
     where
       put : f ≡ i → put-back (whole ths sh (phase-of l (Showing f sv))) f (saved-of l sv) ≡ put-back (whole ths sh (phase-of l ph)) i (saved-of l sv)
       put same = ap (λ (k : ℕ). put-back (whole ths sh (phase-of l ph)) k (saved-of l sv)) same

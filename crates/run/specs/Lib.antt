@@ -1,3 +1,4 @@
 pub mod Orders
 pub mod Turns
 pub mod Models
+pub mod Moments

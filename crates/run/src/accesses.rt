@@ -156,7 +156,16 @@ pub(crate) fn write<L: Language, S: Store>(
 }
 
 // the update from the message that arrived as number k
-fn update_from<L: Language, S: Store>(thread: &mut Thread<L>, shared: &mut Shared<S>, closing: Option<Closing>, modes: (ReadMode, WriteMode), location: u8, from: End, to: End, k: usize) -> Result<(), StepFault>
+fn update_from<L: Language, S: Store>(
+    thread: &mut Thread<L>,
+    shared: &mut Shared<S>,
+    closing: Option<Closing>,
+    modes: (ReadMode, WriteMode),
+    location: u8,
+    from: End,
+    to: End,
+    k: usize,
+) -> Result<(), StepFault>
     requires { ⌜ location < 8 ⌝ }
     ensures { λ r. ⌜ Agrees (update-found (line-of closing) (part-of L·Language S·Store (now (thread .entry)) (now (shared .entry))) (modes .0) (modes .1) location from to (Some k)) (part-of L·Language S·Store (now (thread .entry)) (now (shared .entry))) r (part-of L·Language S·Store (now (thread .exit)) (now (shared .exit))) ⌝ }
 {
@@ -174,18 +183,38 @@ fn update_from<L: Language, S: Store>(thread: &mut Thread<L>, shared: &mut Share
     views.read(modes.0, location, from, message.view);
     views.write(modes.1, location, to);
     let view = views.released(location).join(message.view);
-    shared.store.add(Message { location, from, to, value, view })?;
+    shared
+        .store
+        .add(Message {
+            location,
+            from,
+            to,
+            value,
+            view,
+        })?;
     thread.views = views;
     thread.state.go_on(message.value);
     Ok(())
 }
 
 // U f t: reads the message that ends at `from`, a value that is replaced, and writes one with the span (from, to]
-pub(crate) fn update<L: Language, S: Store>(thread: &mut Thread<L>, shared: &mut Shared<S>, locations: u8, closing: Option<Closing>, from: End, to: End) -> Result<(), StepFault>
+pub(crate) fn update<L: Language, S: Store>(
+    thread: &mut Thread<L>,
+    shared: &mut Shared<S>,
+    locations: u8,
+    closing: Option<Closing>,
+    from: End,
+    to: End,
+) -> Result<(), StepFault>
     requires { ⌜ locations ≤ 8 ⌝ }
     ensures { λ r. ⌜ Agrees (update-result locations (line-of closing) from to (part-of L·Language S·Store (now (thread .entry)) (now (shared .entry)))) (part-of L·Language S·Store (now (thread .entry)) (now (shared .entry))) r (part-of L·Language S·Store (now (thread .exit)) (now (shared .exit))) ⌝ }
 {
-    let Action::Update { location, read, write } = next_action(&thread.state, locations) else {
+    let Action::Update {
+        location,
+        read,
+        write,
+    } = next_action(&thread.state, locations)
+    else {
         return Err(StepFault::Kind);
     };
     if release_owes(thread, shared, write, location) {
@@ -194,5 +223,14 @@ pub(crate) fn update<L: Language, S: Store>(thread: &mut Thread<L>, shared: &mut
     let Some(k) = shared.store.find(location, from) else {
         return Err(StepFault::NoMessage);
     };
-    update_from(thread, shared, closing, (read, write), location, from, to, k)
+    update_from(
+        thread,
+        shared,
+        closing,
+        (read, write),
+        location,
+        from,
+        to,
+        k,
+    )
 }

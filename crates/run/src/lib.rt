@@ -4,6 +4,7 @@ mod closing;
 mod log;
 mod owed;
 pub mod parts;
+mod play;
 mod promises;
 pub mod state;
 mod steps;

@@ -18,7 +18,14 @@ use stores::store::Store;
 use stores::view::View;
 
 // G x v f t: promises a relaxed write
-pub(crate) fn promise<L: Language, S: Store>(thread: &mut Thread<L>, shared: &mut Shared<S>, location: u8, value: u16, from: End, to: End) -> Result<(), StepFault>
+pub(crate) fn promise<L: Language, S: Store>(
+    thread: &mut Thread<L>,
+    shared: &mut Shared<S>,
+    location: u8,
+    value: u16,
+    from: End,
+    to: End,
+) -> Result<(), StepFault>
     requires { ⌜ location < 8 ⌝ }
     ensures { λ r. ⌜ Agrees (promise-result location value from to (part-of L·Language S·Store (now (thread .entry)) (now (shared .entry)))) (part-of L·Language S·Store (now (thread .entry)) (now (shared .entry))) r (part-of L·Language S·Store (now (thread .exit)) (now (shared .exit))) ⌝ }
 {
@@ -29,18 +36,39 @@ pub(crate) fn promise<L: Language, S: Store>(thread: &mut Thread<L>, shared: &mu
         return Err(fault);
     }
     let k = shared.store.len();
-    let view = thread.views.released(location).join(View::single(location, to));
-    shared.store.add(Message { location, from, to, value, view })?;
+    let view = thread
+        .views
+        .released(location)
+        .join(View::single(location, to));
+    shared
+        .store
+        .add(Message {
+            location,
+            from,
+            to,
+            value,
+            view,
+        })?;
     thread.owed.owe(k);
     Ok(())
 }
 
 // H t: keeps the promise of the location that ends at t, by a relaxed write of its value
-pub(crate) fn keep<L: Language, S: Store>(thread: &mut Thread<L>, shared: &Shared<S>, locations: u8, end: End) -> Result<(), StepFault>
+pub(crate) fn keep<L: Language, S: Store>(
+    thread: &mut Thread<L>,
+    shared: &Shared<S>,
+    locations: u8,
+    end: End,
+) -> Result<(), StepFault>
     requires { ⌜ locations ≤ 8 ⌝ }
     ensures { λ r. ⌜ Agrees (keep-result locations end (part-of L·Language S·Store (now (thread .entry)) (now (shared .entry)))) (part-of L·Language S·Store (now (thread .entry)) (now (shared .entry))) r (part-of L·Language S·Store (now (thread .exit)) (now (shared .entry))) ⌝ }
 {
-    let Action::Write { location, value, mode: WriteMode::Relaxed } = next_action(&thread.state, locations) else {
+    let Action::Write {
+        location,
+        value,
+        mode: WriteMode::Relaxed,
+    } = next_action(&thread.state, locations)
+    else {
         return Err(StepFault::Kind);
     };
     let Some(k) = thread.owed.find(&shared.store, location, end) else {

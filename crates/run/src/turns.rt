@@ -47,7 +47,9 @@ fn act<L: Language, S: Store>(
         Line::Write { from, to } => write(thread, shared, locations, closing, from, to),
         Line::Update { from, to } => update(thread, shared, locations, closing, from, to),
         Line::Keep { end } => keep(thread, shared, locations, end),
-        Line::Turn { .. } | Line::Promise { .. } | Line::Show | Line::EndTurn => Err(StepFault::Moment),
+        Line::Turn { .. } | Line::Promise { .. } | Line::Show | Line::EndTurn => Err(
+            StepFault::Moment,
+        ),
     }
 }
 
@@ -61,23 +63,41 @@ impl<L: Language, S: Store> Run<L, S> {
     }
 
     // T i
-    pub(crate) fn begin(&mut self, i: u8)
+    pub(crate) fn begin(&mut self, i: u8) -> Result<(), StepFault>
         requires { ⌜ i < now self .count ⌝ }
-        ensures { λ _. ⌜ (run-of L·Language S·Store (now (self .exit))) ≡ in-phase (run-of L·Language S·Store (now (self .entry))) (turn i) ⌝ }
+        ensures { λ r. ⌜ Agrees (went (in-phase (run-of L·Language S·Store (now (self .entry))) (turn i))) (run-of L·Language S·Store (now (self .entry))) r (run-of L·Language S·Store (now (self .exit))) ⌝ }
     {
         self.phase = Phase::Turn(i);
+        Ok(())
     }
 
     // N, R, W, U and H of thread i
-    pub(crate) fn act(&mut self, i: u8, closing: Option<Closing>, line: Line) -> Result<(), StepFault>
+    pub(crate) fn act(
+        &mut self,
+        i: u8,
+        closing: Option<Closing>,
+        line: Line,
+    ) -> Result<(), StepFault>
         requires { ⌜ i < now self .count ⌝ }
         ensures { λ r. ⌜ Agrees (lifted (run-of L·Language S·Store (now (self .entry))) i (act-result (now (self .entry) .locations) i (line-of closing) line (part-at (run-of L·Language S·Store (now (self .entry))) i))) (run-of L·Language S·Store (now (self .entry))) r (run-of L·Language S·Store (now (self .exit))) ⌝ }
     {
-        act(&mut self.threads[i as usize], &mut self.shared, self.locations, i, closing, line)
+        act(
+            &mut self.threads[i as usize],
+            &mut self.shared,
+            self.locations,
+            i,
+            closing,
+            line,
+        )
     }
 
     // the same in a showing: once nothing is owed, none of these lines may follow
-    pub(crate) fn act_showing(&mut self, i: u8, closing: Closing, line: Line) -> Result<(), StepFault>
+    pub(crate) fn act_showing(
+        &mut self,
+        i: u8,
+        closing: Closing,
+        line: Line,
+    ) -> Result<(), StepFault>
         requires { ⌜ i < now self .count ⌝ }
         ensures { λ r. ⌜ Agrees (cond (none-owed (thread-at (run-of L·Language S·Store (now (self .entry))) i .owed)) (refused Moment) (lifted (run-of L·Language S·Store (now (self .entry))) i (act-result (now (self .entry) .locations) i (Some (closing .ends)) line (part-at (run-of L·Language S·Store (now (self .entry))) i)))) (run-of L·Language S·Store (now (self .entry))) r (run-of L·Language S·Store (now (self .exit))) ⌝ }
     {
@@ -88,12 +108,26 @@ impl<L: Language, S: Store> Run<L, S> {
     }
 
     // G x v f t of thread i
-    pub(crate) fn promise(&mut self, i: u8, location: u8, value: u16, from: End, to: End) -> Result<(), StepFault>
+    pub(crate) fn promise(
+        &mut self,
+        i: u8,
+        location: u8,
+        value: u16,
+        from: End,
+        to: End,
+    ) -> Result<(), StepFault>
         requires thread { ⌜ i < now self .count ⌝ }
         requires place { ⌜ location < 8 ⌝ }
         ensures { λ r. ⌜ Agrees (lifted (run-of L·Language S·Store (now (self .entry))) i (promise-result location value from to (part-at (run-of L·Language S·Store (now (self .entry))) i))) (run-of L·Language S·Store (now (self .entry))) r (run-of L·Language S·Store (now (self .exit))) ⌝ }
     {
-        promise(&mut self.threads[i as usize], &mut self.shared, location, value, from, to)
+        promise(
+            &mut self.threads[i as usize],
+            &mut self.shared,
+            location,
+            value,
+            from,
+            to,
+        )
     }
 
     // X in the turn of thread i

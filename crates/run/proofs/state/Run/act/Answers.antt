@@ -9,4 +9,4 @@ pub returns : need.returns
 returns g c =
     let run = c .args .self .now in
     lift-run (g .L·Language) (g .S·Store) (run .locations) (run .count) (run .threads) (run .shared) (c .act .last .shared) (phase-of (g .L·Language) (run .phase)) (c .args .i) (c .index-self-i .result) (c .act .last .thread)
-      (act-result (run .locations) (c .args .i) (line-of (c .args .closing)) (c .args .line)) (c .act .result) (omega arith) (omega arith) (c .act .ensures)
+    (act-result (run .locations) (c .args .i) (line-of (c .args .closing)) (c .args .line)) (c .act .result) (omega arith) (omega arith) (c .act .ensures)

@@ -12,10 +12,10 @@ returns-in-Between g c =
     let was = sym (c .replace .ensures .value) in
     let turns : (run .phase ≡ Between) ⊎ ((x : ℕ) × (run .phase ≡ Turn x)) = elim (c .in-Between .is) [ inl e ↦ inl (was ∙ e) | inr e ↦ inr (e .0, was ∙ e .1) ] in
     ended-turn (g .L·Language) (g .S·Store) (run .locations) (run .count) (run .threads) (run .shared) (run .phase) (c .replace .last .dest) (c .args .i)
-      turns (c .replace .ensures .after) (sym (c .owes-none .ensures) ∙ c .if-not-owes-none .left)
+    turns (c .replace .ensures .after) (sym (c .owes-none .ensures) ∙ c .if-not-owes-none .left)
 
 pub returns-in-Showing : need.returns-in-Showing
 returns-in-Showing g c =
     let run = c .args .self .now in
     ended-showing (g .L·Language) (g .S·Store) (run .locations) (run .count) (run .threads) (run .shared) (run .phase) (c .replace .last .dest) (c .args .i) (c .in-Showing .field-0) (c .in-Showing .saved) (run-of (g .L·Language) (g .S·Store) (c .put-back .last .self))
-      (sym (c .replace .ensures .value) ∙ c .in-Showing .is) (c .pre) (c .replace .ensures .after) (sym (c .owes-none .ensures) ∙ c .if-not-owes-none .left) (c .put-back .ensures)
+    (sym (c .replace .ensures .value) ∙ c .in-Showing .is) (c .pre) (c .replace .ensures .after) (sym (c .owes-none .ensures) ∙ c .if-not-owes-none .left) (c .put-back .ensures)
