@@ -4,3 +4,4 @@ pub mod Marks
 pub mod Lines
 pub mod Lifts
 pub mod Moments
+pub mod Makings

@@ -6,7 +6,11 @@ use Rattle.std.specs.declared.option.Option.{Option}
 use Rattle.std.specs.declared.option.Option.the-variants.{Some, None}
 use Rattle.languages.specs.declared.language.Language.{Ghosts as Language}
 use Rattle.stores.specs.declared.store.Store.{Ghosts as Store}
+use Rattle.std.specs.declared.result.Result.{Result}
+use Rattle.std.specs.declared.result.Result.the-variants.{Ok, Err}
 use Rattle.stores.specs.declared.view.View.{View}
+use Rattle.rules.specs.declared.fault.StepFault.{StepFault}
+use Rattle.rules.specs.Rules.{Tried, went, refused}
 use Rattle.rules.specs.Models as model
 use Rattle.rules.specs.Models.{between, turn, showing}
 use Rattle.run.specs.declared.parts.ThreadViews.{ThreadViews}
@@ -65,3 +69,8 @@ module _ {L S : Type 0} (l : Language L) (s : Store S) where
         log = log-of (run .shared .log);
         phase = phase-of l (run .phase);
       }
+
+  -- a run, or why there is none
+  abbrev pub tried : Result (Run L S) StepFault → Tried model.Run
+  tried (Ok run) = went (run-of run)
+  tried (Err e) = refused e

@@ -2,6 +2,7 @@
 mod accesses;
 mod closing;
 mod log;
+mod making;
 mod owed;
 pub mod parts;
 mod play;

@@ -8,12 +8,12 @@ use crate::state::Thread;
 use languages::language::Language;
 
 impl<L: Language> Thread<L> {
-    // one that has done nothing
-    pub(crate) fn new(state: L) -> Thread<L>
-        ensures { λ r. ⌜ thread-of L·Language r ≡ fresh (L·Language .behaves state) ⌝ }
+    // one at a copy of the state that has done nothing
+    pub(crate) fn new(state: &L) -> Thread<L>
+        ensures { λ r. ⌜ thread-of L·Language r ≡ fresh (L·Language .behaves (now (state .entry))) ⌝ }
     {
         Thread {
-            state,
+            state: state.copy(),
             views: ThreadViews::new(),
             owed: Owed::new(),
         }
