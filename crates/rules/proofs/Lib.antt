@@ -1,0 +1,11 @@
+pub mod Members
+pub mod Marked
+pub mod Accepts
+pub mod Preserved
+pub mod Shifted
+pub mod Sound
+pub mod Complete
+pub mod Agrees
+pub mod Past
+pub mod Lawfulness
+pub mod Played

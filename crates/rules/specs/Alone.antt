@@ -18,8 +18,7 @@ use Rattle.stores.specs.declared.message.Message.{Message}
 use Rattle.stores.specs.Views.{at, join}
 use Rattle.stores.specs.StoreLaws.{In, Free}
 use Rattle.rules.specs.Models.{Views, Thread}
-use Rattle.rules.specs.Threads.{next-of, reads, read-views, write-views, acquire-views, release-views, both-views, all-views, marked}
-use Rattle.rules.specs.Rules.{written, updated-message, update-views}
+use Rattle.rules.specs.Threads.{next-of, reads, read-views, write-views, update-views, written, updated-message, acquire-views, release-views, both-views, all-views, marked}
 
 -- a thread by itself: what it does, its views, and the promises that it owes
 pub record Lone : Type 0 where
@@ -73,7 +72,7 @@ pub data Alone (l : ℕ) (closing : Option View) (k : Lone) (S : View) (M : List
       → (o ≡ Release → Owes-nothing-at x k)
       → at (k .views .cur) x < t → f < t → Free x f t M → Above closing x f
       → Alone l closing k S M (W f t) (went-on k 0 (write-views o x t (k .views))) S
-          (M ++ (written x v f t (write-views o x t (k .views)) ∷ []))
+      (M ++ (written x v f t (write-views o x t (k .views)) ∷ []))
   -- reads m, and writes from its end on
   update : (o : ReadMode) (w : WriteMode) (m : Message) (v t : ℕ)
       → next-of l (k .does) ≡ Update (m .location) o w
@@ -82,7 +81,7 @@ pub data Alone (l : ℕ) (closing : Option View) (k : Lone) (S : View) (M : List
       → k .does [] .takes (m .value) ≡ Replaced v
       → m .to < t → Free (m .location) (m .to) t M → Above closing (m .location) (m .to)
       → Alone l closing k S M (U (m .to) t) (went-on k (m .value) (update-views o w (m .location) (m .to) t (m .view) (k .views))) S
-          (M ++ (updated-message (m .location) v (m .to) t (m .view) (update-views o w (m .location) (m .to) t (m .view) (k .views)) ∷ []))
+      (M ++ (updated-message (m .location) v (m .to) t (m .view) (update-views o w (m .location) (m .to) t (m .view) (k .views)) ∷ []))
   -- a relaxed write of a promised message
   keep : (m : Message) (before later : List Message)
       → next-of l (k .does) ≡ Write (m .location) (m .value) Relaxed

@@ -54,9 +54,9 @@ abbrev pub update-of : ℕ → Thread → ℕ → ReadMode → WriteMode → ℕ
 update-of i k x o w f t ms None = []
 update-of i k x o w f t ms (Some j) =
     was-updated i f
-      (updated-message x (replaced (k .does [] .takes (message-at ms j .value))) f t (message-at ms j .view)
-        (update-views o w x f t (message-at ms j .view) (k .views)))
-      ∷ []
+    (updated-message x (replaced (k .does [] .takes (message-at ms j .value))) f t (message-at ms j .view)
+    (update-views o w x f t (message-at ms j .view) (k .views)))
+    ∷ []
 
 abbrev pub update-event : ℕ → Thread → ℕ → ℕ → List Message → Action → List Event
 update-event i k f t ms Silent = []
@@ -88,16 +88,43 @@ event i (H t) r = keep-event i t (next-of (r .locations) (thread-at r i .does))
 event i X r = []
 event i E r = []
 
+-- where accepted lines have led: between turns, in a turn of a thread, or in a showing of it
+pub data Place : Type 0 where
+  no-turn : Place
+  turn-of : ℕ → Place
+  showing-of : ℕ → Place
+
+abbrev pub shows-at : Place → Place
+shows-at no-turn = no-turn
+shows-at (turn-of i) = showing-of i
+shows-at (showing-of i) = showing-of i
+
+-- where an accepted line leads: T into a turn, X into a showing, E out of both
+abbrev pub moves : Place → Line → Place
+moves a (T i) = turn-of i
+moves a N = a
+moves a (R t) = a
+moves a (W f t) = a
+moves a (U f t) = a
+moves a (G x v f t) = a
+moves a (H t) = a
+moves a X = shows-at a
+moves a E = no-turn
+
+abbrev pub moved : Place → Line → Tried Run → Place
+moved a line (went r) = moves a line
+moved a line (refused e) = a
+
 -- only lines outside showings count
-abbrev pub event-in : Line → Run → Phase → List Event
-event-in line r between = []
-event-in line r (turn i) = event i line r
-event-in line r (showing i s closing) = []
+abbrev pub event-in : Place → Line → Run → List Event
+event-in no-turn line r = []
+event-in (turn-of i) line r = event i line r
+event-in (showing-of i) line r = []
 
 -- and only accepted ones
-abbrev pub counted : Line → Run → Tried Run → List Event
-counted line r (went r′) = event-in line r (r .phase)
-counted line r (refused e) = []
+abbrev pub counted : Place → Line → Run → Tried Run → List Event
+counted a line r (went r′) = event-in a line r
+counted a line r (refused e) = []
 
 -- the run after a line: a refused line leaves it as it is
 abbrev pub settled : Run → Tried Run → Run
@@ -109,9 +136,16 @@ abbrev pub played : Run → List Line → Run
 played r [] = r
 played r (line ∷ lines) = played (settled r (line-result line r)) lines
 
-abbrev pub history : Run → List Line → List Event
-history r [] = []
-history r (line ∷ lines) = counted line r (line-result line r) ++ history (settled r (line-result line r)) lines
+-- where the accepted ones of these lines lead
+abbrev pub placed : Place → Run → List Line → Place
+placed a r [] = a
+placed a r (line ∷ lines) = placed (moved a line (line-result line r)) (settled r (line-result line r)) lines
+
+-- what the counted ones of these lines did
+abbrev pub history : Place → Run → List Line → List Event
+history a r [] = []
+history a r (line ∷ lines) =
+    counted a line r (line-result line r) ++ history (moved a line (line-result line r)) (settled r (line-result line r)) lines
 
 -- the messages that a history brought
 abbrev pub messages : List Event → List Message
@@ -170,3 +204,9 @@ undone-in r (showing i s closing) = put-back r i s
 
 abbrev pub undone : Run → Run
 undone r = undone-in r (r .phase)
+
+-- where a run is by its phase
+abbrev pub place-of : Phase → Place
+place-of between = no-turn
+place-of (turn i) = turn-of i
+place-of (showing i s closing) = showing-of i

@@ -3,29 +3,27 @@ use mathlib.Core.Path.{_≡_}
 use mathlib.Core.List.{List, [], _∷_}
 use mathlib.Core.Logic.{_⊎_}
 use Prim.Native.Nat.{ℕ, _≤_, _<_}
-use lib.ListN.{length, getD}
 use Rattle.lines.specs.declared.trace.Line.{Line}
 use Rattle.languages.specs.Behaviours.{Behaviour}
 use Rattle.stores.specs.declared.view.View.{View}
 use Rattle.stores.specs.declared.message.Message.{Message}
 use Rattle.stores.specs.Views.{at, Below}
 use Rattle.stores.specs.StoreLaws.{In, Overlaps}
-use Rattle.rules.specs.Models.{Views, Thread, between, Run, thread-at}
+use Rattle.rules.specs.Models.{Views, Run, thread-at}
 use Rattle.rules.specs.Threads.{rel-at}
 use Rattle.rules.specs.Rules.{Tried, went, line-result, made, initial}
 use Rattle.rules.specs.Alone.{Within, Can-keep}
 use Rattle.rules.specs.Steps.{Step, lone-at}
-use Rattle.rules.specs.Histories.{Event, history, played, present, owes-after, times, updates, undone}
+use Rattle.rules.specs.Histories.{Event, Place, no-turn, placed, history, played, present, owes-after, times, updates, undone, place-of}
 
 -- a line is accepted, and leads to a run, exactly when the rules have that step
 abbrev pub Agreement : Run → Type 0
 Agreement r = (line : Line) (r′ : Run) → (line-result line r ≡ went r′ → Step r line r′) × (Step r line r′ → line-result line r ≡ went r′)
 
 -- between turns each thread can by itself come to owe nothing, in every memory that has the present messages
-abbrev pub Promises-can-be-kept : Run → List Event → Type 0
-Promises-can-be-kept r es =
-    r .phase ≡ between → (i : ℕ) → i < length (r .threads) → (M : List Message) → Within (present (r .locations) es) M
-    → Can-keep (r .locations) (lone-at r i) (r .sc) M
+abbrev pub Promises-can-be-kept : Run → Place → List Event → Type 0
+Promises-can-be-kept r a es =
+    a ≡ no-turn → (i : ℕ) → (M : List Message) → Within (present (r .locations) es) M → Can-keep (r .locations) (lone-at r i) (r .sc) M
 
 abbrev pub Is-in : (ℕ × ℕ) → List (ℕ × ℕ) → Type 0
 Is-in p [] = ⊥
@@ -76,14 +74,15 @@ pub record Ordered (vs : Views) : Type 0 where
   pub rel : (x : ℕ) → Below (rel-at vs x) (vs .cur)
   pub acq : Below (vs .cur) (vs .acq)
 
--- the law of a run on l locations, with its history
-pub record Lawful (l : ℕ) (r : Run) (es : List Event) : Type 0 where
+-- the law of a run on l locations, with the place that its accepted lines led to and their history
+pub record Lawful (l : ℕ) (r : Run) (a : Place) (es : List Event) : Type 0 where
   pub locations : r .locations ≡ l
   pub agreement : Agreement r
-  -- the memory and the marks, with an open showing put back, are those of the history
+  -- the phase is that of the accepted lines; the memory and the marks, with an open showing put back, are those of the history
+  pub phase : place-of (r .phase) ≡ a
   pub memory : undone r .memory ≡ present l es
-  pub owed : (i : ℕ) → i < length (r .threads) → lone-at (undone r) i .owed ≡ owes-after i [] es
-  pub promises : Promises-can-be-kept r es
+  pub owed : (i : ℕ) → lone-at (undone r) i .owed ≡ owes-after i [] es
+  pub promises : Promises-can-be-kept r a es
   pub updates : Updates-exclusive es
   pub times : Never-back es
   pub well-formed : (m : Message) → In m (r .memory) → Well-formed m
@@ -97,4 +96,4 @@ pub record Lawful (l : ℕ) (r : Run) (es : List Event) : Type 0 where
 abbrev pub Runs-are-lawful : Type 0
 Runs-are-lawful =
     (bs : List Behaviour) (n l capacity : ℕ) → capacity ≤ 64 → (r : Run) → made bs n l capacity ≡ went r
-    → (lines : List Line) → Lawful l (played r lines) (history r lines)
+    → (lines : List Line) → Lawful l (played r lines) (placed no-turn r lines) (history no-turn r lines)

@@ -2,13 +2,14 @@
 use mathlib.Core.List.{List, [], _∷_}
 use mathlib.Core.Bool.{Bool, false}
 use Prim.Native.Nat.{ℕ}
-use lib.ListN.{getD, set, replicate}
+use lib.ListN.{length, take, getD, set, replicate}
 use Rattle.languages.specs.declared.action.Action.the-variants.{Ended}
 use Rattle.languages.specs.declared.action.Taking.the-variants.{NotTaken}
 use Rattle.languages.specs.Behaviours.{Behaviour}
 use Rattle.stores.specs.declared.view.View.{View}
 use Rattle.stores.specs.declared.message.Message.{Message}
 use Rattle.stores.specs.Views.{zero-view}
+use Rattle.stores.specs.Memory.{greatest-end}
 
 -- the views of a thread: cur, acq, and rel of each location
 pub record Views : Type 0 where
@@ -86,3 +87,28 @@ with-part r i p =
 abbrev pub in-phase : Run → Phase → Run
 in-phase r ph =
     record { locations = r .locations; threads = r .threads; memory = r .memory; capacity = r .capacity; sc = r .sc; log = r .log; phase = ph }
+
+-- the greatest end of each location
+abbrev pub closing-line : List Message → View
+closing-line ms =
+    record {
+      ends =
+          greatest-end 0 ms ∷ greatest-end 1 ms ∷ greatest-end 2 ms ∷ greatest-end 3 ms ∷ greatest-end 4 ms ∷ greatest-end 5 ms ∷ greatest-end 6 ms
+          ∷ greatest-end 7 ms ∷ [];
+    }
+
+abbrev pub saved : Run → ℕ → Saved
+saved r i = record { thread = thread-at r i; sc = r .sc; messages = length (r .memory); prints = length (r .log) }
+
+-- the run at the moment of X
+abbrev pub put-back : Run → ℕ → Saved → Run
+put-back r i s =
+    record {
+      locations = r .locations;
+      threads = set (r .threads) i (s .thread);
+      memory = take (s .messages) (r .memory);
+      capacity = r .capacity;
+      sc = s .sc;
+      log = take (s .prints) (r .log);
+      phase = turn i;
+    }

@@ -24,12 +24,14 @@ use Rattle.languages.specs.Behaviours.{Behaviour, after}
 use Rattle.stores.specs.declared.kept.StoreFault.the-variants.{Full}
 use Rattle.stores.specs.declared.view.View.{View}
 use Rattle.stores.specs.declared.message.Message.{Message}
-use Rattle.stores.specs.Views.{at, zero-view, single, join}
-use Rattle.stores.specs.Memory.{zero-message, find, is-free, greatest-end}
+use Rattle.stores.specs.Views.{at, zero-view, join}
+use Rattle.stores.specs.Memory.{zero-message, find, is-free}
 use Rattle.rules.specs.declared.fault.StepFault.{StepFault}
 use Rattle.rules.specs.declared.fault.StepFault.the-variants.{Range, Moment, Kind, Owing, NoMessage, TooNew, Value, Span, ClosingLine, Store, LogFull, StillOwing}
-use Rattle.rules.specs.Models.{Views, Thread, Part, Saved, Phase, between, turn, showing, Run, fresh, thread-at, part-at, with-part, in-phase}
-use Rattle.rules.specs.Threads.{next-of, reads, rel-at, read-views, write-views, acquire-views, release-views, both-views, all-views, none-owed, owes-at, find-owed}
+use Rattle.rules.specs.Models.{Views, Thread, Part, Phase, between, turn, showing, Run, fresh, thread-at, part-at, with-part, in-phase}
+pub use Rattle.rules.specs.Models.{closing-line, saved, put-back}
+use Rattle.rules.specs.Threads.{next-of, reads, read-views, write-views, acquire-views, release-views, both-views, all-views, none-owed, owes-at, find-owed}
+pub use Rattle.rules.specs.Threads.{update-views, written, updated-message, promised-message, owing}
 
 pub data Tried (Y : Type 0) : Type 0 where
   went : Y → Tried Y
@@ -149,10 +151,6 @@ adds p k m =
     (went (record { thread = k; memory = p .memory ++ (m ∷ []); capacity = p .capacity; sc = p .sc; log = p .log }))
     (refused (Store Full))
 
--- the message that a write makes, with the views after it
-abbrev pub written : ℕ → ℕ → ℕ → ℕ → Views → Message
-written x v f t vs = record { location = x; from = f; to = t; value = v; view = rel-at vs x }
-
 abbrev pub write-at : Option View → Part → ℕ → ℕ → Action → Tried Part
 write-at closing p f t Silent = refused Kind
 write-at closing p f t (Read x o) = refused Kind
@@ -168,13 +166,6 @@ abbrev pub write-result : ℕ → Option View → ℕ → ℕ → Part → Tried
 write-result l closing f t p = write-at closing p f t (next-of l (p .thread .does))
 
 -- U f t: reads the message of x that ends at f, a value that is replaced, and writes one with the span (f, t]
-
-abbrev pub update-views : ReadMode → WriteMode → ℕ → ℕ → ℕ → View → Views → Views
-update-views o w x f t m vs = write-views w x t (read-views o x f m vs)
-
--- the message that an update makes, with the views after it: its view also takes in that of the message read
-abbrev pub updated-message : ℕ → ℕ → ℕ → ℕ → View → Views → Message
-updated-message x v f t m vs = record { location = x; from = f; to = t; value = v; view = join (rel-at vs x) m }
 
 abbrev pub update-taking : Option View → Part → ReadMode → WriteMode → ℕ → ℕ → ℕ → Message → Taking → Tried Part
 update-taking closing p o w x f t m NotTaken = refused Value
@@ -241,14 +232,6 @@ act-result l i closing X p = refused Moment
 act-result l i closing E p = refused Moment
 
 -- G x v f t: promises a relaxed write
-
-abbrev pub promised-message : Views → ℕ → ℕ → ℕ → ℕ → Message
-promised-message vs x v f t = record { location = x; from = f; to = t; value = v; view = join (rel-at vs x) (single x t) }
-
--- the thread owes the message that arrives as number j
-abbrev pub owing : Thread → ℕ → Thread
-owing k j = record { does = k .does; views = k .views; owed = set (k .owed) j true }
-
 abbrev pub promise-result : ℕ → ℕ → ℕ → ℕ → Part → Tried Part
 promise-result x v f t p =
     cond (ltb (at (p .thread .views .cur) x) t)
@@ -280,39 +263,12 @@ begin-in r i (turn j) = refused Moment
 begin-in r i (showing j s closing) = refused Moment
 
 -- X
-
--- the greatest end of each location
-abbrev pub closing-line : List Message → View
-closing-line ms =
-    record {
-      ends =
-          greatest-end 0 ms ∷ greatest-end 1 ms ∷ greatest-end 2 ms ∷ greatest-end 3 ms ∷ greatest-end 4 ms ∷ greatest-end 5 ms ∷ greatest-end 6 ms
-          ∷ greatest-end 7 ms ∷ [];
-    }
-
-abbrev pub saved : Run → ℕ → Saved
-saved r i = record { thread = thread-at r i; sc = r .sc; messages = length (r .memory); prints = length (r .log) }
-
 abbrev pub show-in : Run → Phase → Tried Run
 show-in r between = refused Moment
 show-in r (turn i) = cond (none-owed (thread-at r i .owed)) (refused Moment) (went (in-phase r (showing i (saved r i) (closing-line (r .memory)))))
 show-in r (showing i s closing) = refused Moment
 
 -- E
-
--- the run at the moment of X
-abbrev pub put-back : Run → ℕ → Saved → Run
-put-back r i s =
-    record {
-      locations = r .locations;
-      threads = set (r .threads) i (s .thread);
-      memory = take (s .messages) (r .memory);
-      capacity = r .capacity;
-      sc = s .sc;
-      log = take (s .prints) (r .log);
-      phase = turn i;
-    }
-
 abbrev pub end-in : Run → Phase → Tried Run
 end-in r between = refused Moment
 end-in r (turn i) = cond (none-owed (thread-at r i .owed)) (went (in-phase r between)) (refused StillOwing)

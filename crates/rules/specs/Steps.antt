@@ -14,9 +14,8 @@ use Rattle.stores.specs.declared.view.View.{View}
 use Rattle.stores.specs.declared.message.Message.{Message}
 use Rattle.stores.specs.Views.{at}
 use Rattle.stores.specs.StoreLaws.{Free}
-use Rattle.rules.specs.Models.{Thread, Part, Saved, Phase, between, turn, showing, Run, thread-at, with-part, in-phase}
-use Rattle.rules.specs.Threads.{next-of}
-use Rattle.rules.specs.Rules.{promised-message, owing, saved, closing-line, put-back}
+use Rattle.rules.specs.Models.{Thread, Part, Saved, Phase, between, turn, showing, Run, thread-at, with-part, in-phase, closing-line, saved, put-back}
+use Rattle.rules.specs.Threads.{next-of, promised-message, owing}
 use Rattle.rules.specs.Alone.{Lone, lone, Owes-nothing, Alone}
 
 abbrev pub lone-at : Run → ℕ → Lone
@@ -52,23 +51,23 @@ pub data Step (r : Run) : Line → Run → Type 0 where
       → length M ≤ r .capacity
       → length (r .log ++ printed i (next-of (r .locations) (thread-at r i .does))) ≤ 64
       → Step r line (with-part r i (record {
-          thread = k;
-          memory = M;
-          capacity = r .capacity;
-          sc = S;
-          log = r .log ++ printed i (next-of (r .locations) (thread-at r i .does));
-        }))
+        thread = k;
+        memory = M;
+        capacity = r .capacity;
+        sc = S;
+        log = r .log ++ printed i (next-of (r .locations) (thread-at r i .does));
+      }))
   promises : (i x v f t : ℕ)
       → r .phase ≡ turn i → x < r .locations
       → at (thread-at r i .views .cur) x < t → f < t → Free x f t (r .memory)
       → length (r .memory) < r .capacity
       → Step r (G x v f t) (with-part r i (record {
-          thread = owing (thread-at r i) (length (r .memory));
-          memory = r .memory ++ (promised-message (thread-at r i .views) x v f t ∷ []);
-          capacity = r .capacity;
-          sc = r .sc;
-          log = r .log;
-        }))
+        thread = owing (thread-at r i) (length (r .memory));
+        memory = r .memory ++ (promised-message (thread-at r i .views) x v f t ∷ []);
+        capacity = r .capacity;
+        sc = r .sc;
+        log = r .log;
+      }))
   shows : (i : ℕ) → r .phase ≡ turn i → (Owes-nothing (lone-at r i) → ⊥)
       → Step r X (in-phase r (showing i (saved r i) (closing-line (r .memory))))
   ends-turn : (i : ℕ) → r .phase ≡ turn i → Owes-nothing (lone-at r i) → Step r E (in-phase r between)

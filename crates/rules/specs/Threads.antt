@@ -17,7 +17,7 @@ use Rattle.stores.specs.declared.view.View.{View}
 use Rattle.stores.specs.declared.message.Message.{Message}
 use Rattle.stores.specs.Views.{zero-view, single, join}
 use Rattle.stores.specs.Memory.{ends-at}
-use Rattle.rules.specs.Models.{Views}
+use Rattle.rules.specs.Models.{Views, Thread}
 
 -- an action at location l or beyond counts as ended
 abbrev pub within : ℕ → Action → Action
@@ -69,6 +69,22 @@ write-views o x t vs =
       rel = set (vs .rel) x (write-rel o (join (rel-at vs x) (single x t)) (join (vs .cur) (single x t)));
     }
 
+-- an update reads the message that ends at f and has the view m, and then writes up to t
+abbrev pub update-views : ReadMode → WriteMode → ℕ → ℕ → ℕ → View → Views → Views
+update-views o w x f t m vs = write-views w x t (read-views o x f m vs)
+
+-- the message that a write makes, with the views after it
+abbrev pub written : ℕ → ℕ → ℕ → ℕ → Views → Message
+written x v f t vs = record { location = x; from = f; to = t; value = v; view = rel-at vs x }
+
+-- the message that an update makes, with the views after it: its view also takes in that of the message read
+abbrev pub updated-message : ℕ → ℕ → ℕ → ℕ → View → Views → Message
+updated-message x v f t m vs = record { location = x; from = f; to = t; value = v; view = join (rel-at vs x) m }
+
+-- the message that a promise makes
+abbrev pub promised-message : Views → ℕ → ℕ → ℕ → ℕ → Message
+promised-message vs x v f t = record { location = x; from = f; to = t; value = v; view = join (rel-at vs x) (single x t) }
+
 -- cur becomes acq
 abbrev pub acquire-views : Views → Views
 acquire-views vs = record { cur = vs .acq; acq = vs .acq; rel = vs .rel }
@@ -110,3 +126,7 @@ find-owed-from k x t (b ∷ bs) (m ∷ ms) = cond (b && ends-at x t m) (Some k) 
 
 abbrev pub find-owed : ℕ → ℕ → List Bool → List Message → Option ℕ
 find-owed x t bs ms = find-owed-from 0 x t bs ms
+
+-- the thread owes the message that arrives as number j
+abbrev pub owing : Thread → ℕ → Thread
+owing k j = record { does = k .does; views = k .views; owed = set (k .owed) j true }
