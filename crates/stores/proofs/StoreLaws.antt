@@ -3,10 +3,11 @@ use mathlib.Core.Path.{_≡_, refl, sym, ap, _∙_, subst}
 use mathlib.Core.Logic.{_⊎_, inl, inr}
 use mathlib.Core.List.{List, [], _∷_}
 use mathlib.Core.Bool.{Bool, true, false, cond, not, _&&_}
-use Prim.Native.Nat.{ℕ, zero, suc, _+_, _≤_, _<_, max}
+use Prim.Native.Nat.{ℕ, zero, suc, _+_, _≤_, _<_}
 use native.Mathlib.Omega.{arith}
 use lib.Dec.{eqb, ltb}
 use lib.ListN.{length, getD}
+use Rattle.std.specs.Options.{Cases as BySome}
 use Rattle.std.specs.declared.option.Option.{Option}
 use Rattle.std.specs.declared.option.Option.the-variants.{Some, None}
 use Rattle.std.proofs.shelf.Tests.{and-parts, and-from, not-true, not-from-false, both-ways, eqb-true, ltb-true, eq-eqb, ne-eqb, lt-ltb, cases-bool, cases-eq, cases-lt, cond-true, cond-false}
@@ -100,6 +101,10 @@ find-from-none k x t (n ∷ ns) e m (inr i) h =
       | inl b ↦ none-some k (sym e ∙ cond-true _ (Some k) (find-from (k + 1) x t ns) b)
       | inr b ↦ find-from-none (k + 1) x t ns (sym (cond-false _ (Some k) (find-from (k + 1) x t ns) b) ∙ e) m i h
     ]
+
+pub find-inside : (x t : ℕ) (ms : List Message) (r : Option ℕ) → r ≡ find x t ms → BySome r (Unit {0}) (λ k. k < length ms)
+find-inside x t ms None e = tt
+find-inside x t ms (Some j) e = let r = find-from-some 0 x t ms zero-message j (sym e) in omega arith
 
 pub find-law : (x t : ℕ) (ms : List Message) (r : Option ℕ) → r ≡ find x t ms → Finds x t ms r
 unfolding Finds

@@ -1,11 +1,11 @@
 -- Views by place: joins, single views and the order.
 use mathlib.Core.Path.{_≡_, refl, sym, ap, _∙_, subst}
 use mathlib.Core.List.{List, [], _∷_}
-use mathlib.Core.Bool.{Bool, true, false, _&&_}
+use mathlib.Core.Bool.{Bool, true, _&&_}
 use Prim.Native.Nat.{ℕ, zero, suc, _+_, _<_, _≤_, max}
 use native.Mathlib.Omega.{arith}
 use lib.Dec.{leb}
-use lib.ListN.{length, getD, drop, set, replicate}
+use lib.ListN.{length, getD, drop, replicate}
 use borrow.Author.Tests.{le-leb}
 use Rattle.std.proofs.shelf.Lists.{ext-getD, drop-more, drop-all, getD-set-same, getD-set-other, set-past}
 use Rattle.std.proofs.shelf.Tests.{and-parts, and-from, leb-true}

@@ -17,6 +17,7 @@ Greater-at-each a b r = (x : ℕ) → at r x ≡ max (at a x) (at b x)
 unfoldable pub Least-upper-bound : View → View → View → Type 0
 Least-upper-bound a b r = Below a r × Below b r × ((v : View) → Below a v → Below b v → Below r v)
 
+-- r is below every view
 unfoldable pub Least : View → Type 0
 Least r = (v : View) → Below r v
 

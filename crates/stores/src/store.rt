@@ -1,8 +1,9 @@
 // A message store: messages in order of arrival, up to a capacity.
 ghost use mathlib.Core.Path.{_≡_};
 ghost use mathlib.Core.List.{List};
-ghost use Prim.Native.Nat.{ℕ, _≤_};
+ghost use Prim.Native.Nat.{ℕ, _≤_, _<_};
 ghost use lib.ListN.{length, take};
+ghost use Rattle.std.specs.Options.{Cases as BySome};
 ghost use Rattle.stores.specs.declared.message.Message.{Message};
 ghost use Rattle.stores.specs.Memory.{add-answer, added, find, is-free, greatest-end, nth};
 ghost use Rattle.stores.specs.StoreLaws.{Finds, Free, Greatest};
@@ -31,6 +32,7 @@ pub trait Store: Drop {
     // the arrival number of the message of the location with that end; of several the first
     fn find(&self, location: u8, end: End) -> Option<usize>
         ensures value { λ r. ⌜ r ≡ find location end (held (now (self .entry))) ⌝ }
+        ensures inside { λ r. ⌜ BySome r (Unit {0}) (λ k. k < length (held (now (self .entry)))) ⌝ }
         ensures exact { λ r. ⌜ Finds location end (held (now (self .entry))) r ⌝ };
 
     // whether the span (from, to] overlaps no message of the location

@@ -1,5 +1,4 @@
-// Every question, asked of the flat store and of a store with room for three.
-ghost use mathlib.Core.Path.{_≡_};
+// Views, and every question asked of the flat store and of a store with room for three.
 ghost use Prim.Native.Nat.{_≤_};
 ghost use lib.ListN.{length, take};
 use crate::flat::Flat;
@@ -98,4 +97,15 @@ fn small_answers_and_refuses() -> Result<(), Fail> {
     store.add(message(2, 0, 4, 1))?;
     check_eq(store.add(message(2, 4, 5, 1)), Err(StoreFault::Full))?;
     check_eq(store.len(), 3)
+}
+
+#[test]
+fn views_join() -> Result<(), Fail> {
+    let a = View::single(1, 5).join(View::single(2, 3));
+    let b = a.join(View::single(1, 4));
+    check_eq(b.at(1), 5)?;
+    check_eq(b.at(2), 3)?;
+    check_eq(b.at(8), 0)?;
+    check(b.at_most(a))?;
+    check(!a.at_most(View::single(1, 5)))
 }

@@ -1,6 +1,6 @@
 use mathlib.Core.Path.{refl, sym}
 use native.Mathlib.Omega.{arith}
-use lib.ListN.{length, take, length-take}
+use lib.ListN.{take, length-take}
 use Rattle.std.proofs.shelf.Lists.{take-take, take-all}
 use Rattle.stores.proofs.flat.FlatStore.keep.Needs as need
 

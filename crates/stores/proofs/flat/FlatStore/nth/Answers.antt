@@ -2,12 +2,11 @@ use mathlib.Core.Path.{_≡_, sym, ap, _∙_}
 use mathlib.Core.Bool.{true}
 use native.Mathlib.Omega.{arith}
 use lib.Dec.{ltb}
-use lib.ListN.{length, take, getD}
+use lib.ListN.{length, take}
 use borrow.Author.Tests.{lt-ltb}
 use Rattle.std.proofs.shelf.Lists.{getD-take, getD-default, length-take-le}
 use Rattle.std.proofs.shelf.Tests.{cond-true}
 use Rattle.stores.specs.declared.message.Message.{Message}
-use Rattle.stores.specs.declared.kept.Kept.{Kept}
 use Rattle.stores.specs.Memory.{zero-message}
 use Rattle.stores.proofs.flat.FlatStore.nth.Needs as need
 

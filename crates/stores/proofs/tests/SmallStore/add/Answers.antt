@@ -1,6 +1,5 @@
 use mathlib.Core.Path.{_≡_, ap, _∙_}
-use mathlib.Core.Bool.{true}
-use Prim.Native.Nat.{_+_, _<_, _≤_}
+use Prim.Native.Nat.{_+_, _<_}
 use native.Mathlib.Omega.{arith}
 use lib.ListN.{length, take}
 use borrow.Author.Tests.{lt-ltb}
@@ -14,5 +13,5 @@ ghost-self c =
     let ms = take (s .len) (s .items) in
     let room : length ms < 64 = omega arith in
     let more : length (take (c .add .last .self .len) (c .add .last .self .items)) ≡ length ms + 1 =
-      ap length (c .add .ensures .after ∙ cond-true _ _ _ (lt-ltb (length ms) 64 room)) ∙ length-push ms (c .args .message) in
+    ap length (c .add .ensures .after ∙ cond-true _ _ _ (lt-ltb (length ms) 64 room)) ∙ length-push ms (c .args .message) in
     (omega arith, tt)

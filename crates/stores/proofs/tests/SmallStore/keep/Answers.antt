@@ -9,5 +9,5 @@ ghost-self c =
     let s = c .args .self .now .inner in
     let ms = take (s .len) (s .items) in
     let less : length (take (c .keep .last .self .len) (c .keep .last .self .items)) ≡ min (c .args .n) (length ms) =
-      ap length (c .keep .ensures .after) ∙ length-take (c .args .n) ms in
+    ap length (c .keep .ensures .after) ∙ length-take (c .args .n) ms in
     (omega arith, tt)

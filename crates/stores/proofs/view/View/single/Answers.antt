@@ -1,5 +1,4 @@
 use mathlib.Core.Path.{_≡_, refl, sym}
-use native.Mathlib.Omega.{arith}
 use Rattle.stores.specs.Views.{single, zero-view}
 use Rattle.stores.proofs.ViewLaws.{single-outside, single-law}
 use Rattle.stores.proofs.view.View.single.Needs as need
