@@ -17,7 +17,7 @@ use Rattle.languages.specs.declared.registers.RegisterLine.{RegisterLine}
 use Rattle.languages.specs.declared.registers.RegisterLine.the-variants as register
 use Rattle.languages.specs.declared.register_thread.RegisterThread.{RegisterThread}
 
--- so it is of a behaviour if it is of each state
+-- a behaviour names no other location if no state does
 pub behaviour-located : {State : Type 0} (means : State → Meaning State) → ((s : State) → Located (means s .next)) → (s : State) (vs : List ℕ) → Located (behaviour means s vs .next)
 behaviour-located means each s [] = each s
 behaviour-located means each s (v ∷ vs) = behaviour-located means each (means s .goes-on v) vs

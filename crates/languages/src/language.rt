@@ -8,13 +8,14 @@ use crate::action::Action;
 use crate::action::Taking;
 
 pub trait Language: Sized + Drop {
-    // The moment that the state comes to after each list of values that it may be given.
+    // The moment that a state comes to after each list of values that it may be given.
     ghost behaves: { Self → Behaviour };
 
-    // Whatever values it is given, it names no location of 8 or more.
+    // The law of locations: whatever values it is given, a state names none of 8 or more.
+    // A ghost member, since a `law` could be met by a type with a lifetime only by a proof written out.
     ghost located: { (state : Self) (values : List ℕ) → Located (behaves state values .next) };
 
-    // The next action.
+    // What the state does next.
     fn next(&self) -> Action
         ensures { λ r. ⌜ r ≡ behaves (now (self .entry)) [] .next ⌝ };
 

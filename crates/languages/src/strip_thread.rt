@@ -113,3 +113,53 @@ pub impl<'a> Language for StripThread<'a> as StripLanguage {
         *self
     }
 }
+
+#[cfg(test)]
+mod tests {
+    use super::*;
+    use crate::action::FenceKind;
+    use crate::action::ReadMode;
+    use crate::action::WriteMode;
+    use crate::replay::replay;
+    use std::test::*;
+
+    const PROGRAM: [StripLine; 6] = [
+        StripLine::Read {
+            location: 0,
+            value: 3,
+            mode: ReadMode::Relaxed,
+        },
+        StripLine::Store {
+            location: 7,
+            value: 9,
+            mode: WriteMode::Relaxed,
+        },
+        StripLine::FetchAdd {
+            location: 1,
+            value: 2,
+            read: ReadMode::Acquire,
+            write: WriteMode::Release,
+        },
+        StripLine::Fence {
+            kind: FenceKind::Sequential,
+        },
+        StripLine::Print { value: 8 },
+        StripLine::Store {
+            location: 8,
+            value: 1,
+            mode: WriteMode::Relaxed,
+        },
+    ];
+
+    #[test]
+    fn lines_run_straight_through() -> Result<(), Fail> {
+        let start = StripThread::new(&PROGRAM);
+        check(matches!(start.takes(3), Taking::OnlyRead))?;
+        check(matches!(start.takes(4), Taking::NotTaken))?;
+        let adding = replay(&start, &[3, 0]);
+        check(matches!(adding.takes(65535), Taking::Replaced { value: 1 }))?;
+        let last = replay(&adding, &[65535, 0]);
+        check(matches!(last.next(), Action::Print { value: 8 }))?;
+        check(matches!(replay(&last, &[0]).next(), Action::Ended))
+    }
+}
