@@ -5,3 +5,5 @@ pub mod Lines
 pub mod Lifts
 pub mod Moments
 pub mod Makings
+pub mod Played
+pub mod Owing

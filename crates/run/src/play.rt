@@ -1,8 +1,10 @@
 // A run, line by line.
 ghost use mathlib.Core.Path.{_≡_};
 ghost use mathlib.Core.Bool.{true};
-ghost use Rattle.rules.specs.Rules.{Agrees, act-in, line-result};
-ghost use Rattle.run.specs.Models.{run-of};
+ghost use mathlib.Core.List.{map};
+ghost use Rattle.rules.specs.Rules.{Agrees, act-in, line-result, made};
+ghost use Rattle.run.specs.Models.{run-of, tried};
+ghost use Rattle.run.specs.Plays.{plays, Obeys};
 ghost use Rattle.run.specs.Moments.{in-range, moment-result};
 use crate::state::Phase;
 use crate::state::Run;
@@ -81,4 +83,23 @@ impl<L: Language, S: Store> Run<L, S> {
         }
         self.at_moment(line)
     }
+}
+
+// Makes a run and gives it the lines, one after another. A refused line leaves the run as it was, and each line is
+// judged on the run that the ones before it led to.
+pub fn play<L: Language, S: Store>(
+    threads: [L; 4],
+    n: u8,
+    locations: u8,
+    store: S,
+    lines: &[Line],
+) -> Result<Run<L, S>, StepFault>
+    ensures ends { λ r. ⌜ tried L·Language S·Store r ≡ plays (made (map (L·Language .behaves) threads) n locations (S·Store .capacity store)) (now (lines .entry)) ⌝ }
+    ensures law { λ r. ⌜ Obeys locations (made (map (L·Language .behaves) threads) n locations (S·Store .capacity store)) (now (lines .entry)) (tried L·Language S·Store r) ⌝ }
+{
+    let mut run = Run::new(threads, n, locations, store)?;
+    for line in lines {
+        let _ = run.step(*line);
+    }
+    Ok(run)
 }
