@@ -1,0 +1,9 @@
+pub mod ViewOrders
+pub mod Logs
+pub mod Marks
+pub mod Lines
+pub mod Lifts
+pub mod Moments
+pub mod Makings
+pub mod Played
+pub mod Owing

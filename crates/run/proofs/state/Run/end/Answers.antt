@@ -1,0 +1,21 @@
+use mathlib.Core.Path.{_≡_, sym, _∙_}
+use mathlib.Core.Logic.{_⊎_, inl, inr}
+use Prim.Native.Nat.{ℕ}
+use Rattle.run.specs.declared.state.Phase.the-variants.{Between, Turn}
+use Rattle.run.specs.Models.{run-of}
+use Rattle.run.proofs.Lifts.{ended-turn, ended-showing}
+use Rattle.run.proofs.state.Run.end.Needs as need
+
+pub returns-in-Between : need.returns-in-Between
+returns-in-Between g c =
+    let run = c .args .self .now in
+    let was = sym (c .replace .ensures .value) in
+    let turns : (run .phase ≡ Between) ⊎ ((x : ℕ) × (run .phase ≡ Turn x)) = elim (c .in-Between .is) [ inl e ↦ inl (was ∙ e) | inr e ↦ inr (e .0, was ∙ e .1) ] in
+    ended-turn (g .L·Language) (g .S·Store) (run .locations) (run .count) (run .threads) (run .shared) (run .phase) (c .replace .last .dest) (c .args .i)
+    turns (c .replace .ensures .after) (sym (c .owes-none .ensures) ∙ c .if-not-owes-none .left)
+
+pub returns-in-Showing : need.returns-in-Showing
+returns-in-Showing g c =
+    let run = c .args .self .now in
+    ended-showing (g .L·Language) (g .S·Store) (run .locations) (run .count) (run .threads) (run .shared) (run .phase) (c .replace .last .dest) (c .args .i) (c .in-Showing .field-0) (c .in-Showing .saved) (run-of (g .L·Language) (g .S·Store) (c .put-back .last .self))
+    (sym (c .replace .ensures .value) ∙ c .in-Showing .is) (c .pre) (c .replace .ensures .after) (sym (c .owes-none .ensures) ∙ c .if-not-owes-none .left) (c .put-back .ensures)
