@@ -1,0 +1,180 @@
+//! Random jobs of many kinds, each made from its own seed.
+
+use row_judge::languages::{Language, Registers, Strip};
+use row_judge::refusal::Refusal;
+use row_judge::run::Run;
+use row_judge::{programs, Head, LanguageName};
+
+use crate::damage::{damage_bytes, damage_head, damage_line, damage_pairs};
+use crate::programs::{register_program, strip_program, taste, Taste};
+use crate::random::Random;
+use crate::text::{line_text, trace_text, Job};
+use crate::walk::{Manner, Walk};
+
+/// What the trace of a job is to come to.
+#[derive(Clone, Copy, PartialEq, Eq)]
+enum Aim {
+    Accepted,
+    Unfinished,
+    Refused(Refusal),
+}
+
+const STEP_REFUSALS: [Refusal; 10] = [
+    Refusal::NotNow,
+    Refusal::OtherKind,
+    Refusal::Owing,
+    Refusal::NotThere,
+    Refusal::TooNew,
+    Refusal::Value,
+    Refusal::Span,
+    Refusal::ClosingLine,
+    Refusal::Full,
+    Refusal::EndOwing,
+];
+
+/// The job with this number.
+pub fn job(seed: u64, number: u64) -> Vec<u8> {
+    let mut random = Random::new(seed.wrapping_mul(0x1_0000_0001).wrapping_add(number << 1));
+    random.next();
+    match random.below(100) {
+        0..=37 => job_with(&mut random, Aim::Accepted).bytes(),
+        38..=67 => {
+            let wanted = random.pick(&STEP_REFUSALS);
+            job_with(&mut random, Aim::Refused(wanted)).bytes()
+        }
+        68..=70 => job_with(&mut random, Aim::Unfinished).bytes(),
+        71..=80 => {
+            let mut job = job_with(&mut random, Aim::Accepted);
+            damage_line(&mut random, &mut job);
+            job.bytes()
+        }
+        81..=83 => {
+            let job = job_with(&mut random, Aim::Accepted);
+            damage_head(&mut random, &job)
+        }
+        84..=87 => {
+            let job = job_with(&mut random, Aim::Accepted);
+            damage_pairs(&mut random, &job)
+        }
+        88 => long_program(&mut random).bytes(),
+        89 if random.chance(20) => long_file(&mut random),
+        _ => {
+            let bytes = job_with(&mut random, Aim::Accepted).bytes();
+            damage_bytes(&mut random, bytes)
+        }
+    }
+}
+
+fn empty_job(random: &mut Random, aim: Aim) -> Job {
+    let language = random.below(2);
+    let threads = random.within(1, 4);
+    let locations = if random.chance(60) { random.within(1, 3) } else { random.within(1, 8) };
+    let full = aim == Aim::Refused(Refusal::Full);
+    let mut sections = Vec::new();
+    for _ in 0..threads {
+        let taste = if full {
+            random.pick(&[Taste::Writes, Taste::Prints, Taste::Updates])
+        } else {
+            taste(random)
+        };
+        let program = if language == 0 {
+            register_program(random, locations, taste)
+        } else {
+            strip_program(random, locations, taste)
+        };
+        sections.push(program.into_bytes());
+    }
+    sections.push(Vec::new());
+    Job { language, locations, sections }
+}
+
+fn job_with(random: &mut Random, aim: Aim) -> Job {
+    let mut job = empty_job(random, aim);
+    let bytes = job.bytes();
+    let head = Head::read(&bytes).expect("a generated head is right");
+    let trace = match head.language {
+        LanguageName::Registers => trace::<Registers>(random, &head, aim),
+        LanguageName::Strips => trace::<Strip>(random, &head, aim),
+    };
+    *job.sections.last_mut().expect("the trace") = trace;
+    job
+}
+
+fn trace<L: Language>(random: &mut Random, head: &Head, aim: Aim) -> Vec<u8> {
+    let programs = programs::<L>(head).expect("generated programs are right");
+    let run = Run::<L>::new(&programs, head.locations);
+    let long = aim == Aim::Refused(Refusal::Full);
+    let lines = match random.below(10) {
+        _ if long => 700,
+        0 => 500,
+        1..=3 => 120,
+        _ => random.within(1, 40),
+    };
+    let manner = Manner {
+        turn_steps: if long { 60 } else { random.pick(&[3, 8, 8, 30]) },
+        show_steps: 30,
+        promise_percent: if long { 3 } else { random.pick(&[0, 15, 30, 60]) },
+        wide_gaps: random.chance(50),
+    };
+    let mut walk = Walk::new(run, random, head.threads, head.locations, manner);
+    walk.turns(lines);
+    match aim {
+        Aim::Accepted => {}
+        Aim::Unfinished => walk.open_end(),
+        Aim::Refused(wanted) => return refused_trace(&mut walk, wanted),
+    }
+    trace_text(&walk.trace)
+}
+
+/// The trace so far, lines that lead into a turn or a showing, the refused line, and anything.
+fn refused_trace<L: Language>(walk: &mut Walk<L>, wanted: Refusal) -> Vec<u8> {
+    let mut refused = None;
+    for _ in 0..25 {
+        let saved = (walk.run.clone(), walk.trace.len());
+        if walk.random.chance(85) {
+            walk.open_end();
+        }
+        refused = walk.refused_line(wanted);
+        if refused.is_some() {
+            break;
+        }
+        walk.run = saved.0;
+        walk.trace.truncate(saved.1);
+        walk.restart();
+    }
+    let mut text = trace_text(&walk.trace);
+    if let Some(line) = refused {
+        text.extend(line_text(line).bytes());
+        for _ in 0..walk.random.below(4) {
+            let line = walk.wild();
+            text.extend(line_text(line).bytes());
+        }
+        if walk.random.chance(10) {
+            text.extend(b"r 0");
+        }
+    }
+    text
+}
+
+/// A program with 64 lines or more; what stands behind line 64 may itself be wrong.
+fn long_program(random: &mut Random) -> Job {
+    let mut job = job_with(random, Aim::Accepted);
+    let place = random.below(job.sections.len() - 1);
+    let count = random.pick(&[63, 64, 65, 65, 65, 66, 70]);
+    let mut text = "F 0\n".repeat(count);
+    if random.chance(30) {
+        text += random.pick(&["F 4\n", "F 00\n", "f\n", "\n", "F 0", "P 9\n"]);
+    }
+    job.sections[place] = text.into_bytes();
+    job
+}
+
+/// A file at the limit of its length, or just above.
+fn long_file(random: &mut Random) -> Vec<u8> {
+    let job = job_with(random, Aim::Accepted);
+    let mut bytes = job.bytes();
+    let length = random.pick(&[65_534, 65_535, 65_536, 65_537, 70_000]);
+    bytes.resize(length, random.pick(b"N\n 0\0"));
+    bytes
+}
+
