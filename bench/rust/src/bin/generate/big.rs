@@ -113,7 +113,7 @@ pub fn big(kind: &str, seed: u64) -> Option<Vec<u8>> {
 fn trace<L: Language>(random: &mut Random, head: &Head, plan: &Plan) -> Vec<u8> {
     let programs = programs::<L>(head).expect("the programs are right");
     let run = Run::<L>::new(&programs, LOCATIONS);
-    let manner = Manner { turn_steps: 120, show_steps: 200, promise_percent: 0, wide_gaps: false };
+    let manner = Manner { turn_steps: 120, show_steps: 200, promise_percent: 0, gaps: &[1] };
     let mut walk = Walk::new(run, random, THREADS, LOCATIONS, manner);
     for thread in 0..THREADS {
         walk.fill(thread, plan.filling(thread).len());

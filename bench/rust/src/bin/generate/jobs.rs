@@ -2,14 +2,15 @@
 
 use row_judge::languages::{Language, Registers, Strip};
 use row_judge::refusal::Refusal;
+use row_judge::report::LEAST_BUFFER;
 use row_judge::run::Run;
-use row_judge::{programs, Head, LanguageName};
+use row_judge::{judge, programs, Head, LanguageName};
 
 use crate::damage::{damage_bytes, damage_head, damage_line, damage_pairs};
 use crate::programs::{register_program, strip_program, taste, Taste};
 use crate::random::Random;
 use crate::text::{line_text, trace_text, Job};
-use crate::walk::{Manner, Walk};
+use crate::walk::{Kind, Manner, Walk};
 
 /// What the trace of a job is to come to.
 #[derive(Clone, Copy, PartialEq, Eq)]
@@ -32,6 +33,17 @@ const STEP_REFUSALS: [Refusal; 10] = [
     Refusal::EndOwing,
 ];
 
+const GAPS: [&[u16]; 5] =
+    [&[1], &[1], &[1, 1, 1, 2, 3], &[1, 1, 2, 5, 20, 300], &[1, 2, 9, 1000, 20_000, 65_535]];
+
+/// Whether the refusal is found more easily while something is owed.
+fn about_promises(refusal: Refusal) -> bool {
+    matches!(
+        refusal,
+        Refusal::Owing | Refusal::ClosingLine | Refusal::EndOwing | Refusal::Value | Refusal::TooNew
+    )
+}
+
 /// The job with this number.
 pub fn job(seed: u64, number: u64) -> Vec<u8> {
     let mut random = Random::new(seed.wrapping_mul(0x1_0000_0001).wrapping_add(number << 1));
@@ -40,7 +52,7 @@ pub fn job(seed: u64, number: u64) -> Vec<u8> {
         0..=37 => job_with(&mut random, Aim::Accepted).bytes(),
         38..=67 => {
             let wanted = random.pick(&STEP_REFUSALS);
-            job_with(&mut random, Aim::Refused(wanted)).bytes()
+            refused_job(&mut random, wanted)
         }
         68..=70 => job_with(&mut random, Aim::Unfinished).bytes(),
         71..=80 => {
@@ -63,6 +75,20 @@ pub fn job(seed: u64, number: u64) -> Vec<u8> {
             damage_bytes(&mut random, bytes)
         }
     }
+}
+
+/// A job that is refused so, or, when some programs give no way to that, an accepted one.
+fn refused_job(random: &mut Random, wanted: Refusal) -> Vec<u8> {
+    let mut bytes = Vec::new();
+    for _ in 0..6 {
+        bytes = job_with(random, Aim::Refused(wanted)).bytes();
+        let mut report = [0; LEAST_BUFFER];
+        judge(&bytes, &mut report);
+        if report.starts_with(b"NO") {
+            break;
+        }
+    }
+    bytes
 }
 
 fn empty_job(random: &mut Random, aim: Aim) -> Job {
@@ -107,20 +133,21 @@ fn trace<L: Language>(random: &mut Random, head: &Head, aim: Aim) -> Vec<u8> {
     let lines = match random.below(10) {
         _ if long => 700,
         0 => 500,
-        1..=3 => 120,
-        _ => random.within(1, 40),
+        1..=4 => 150,
+        _ if aim == Aim::Accepted => 60,
+        _ => random.within(0, 30),
     };
     let manner = Manner {
-        turn_steps: if long { 60 } else { random.pick(&[3, 8, 8, 30]) },
+        turn_steps: if long { 60 } else { random.pick(&[4, 12, 12, 40]) },
         show_steps: 30,
-        promise_percent: if long { 3 } else { random.pick(&[0, 15, 30, 60]) },
-        wide_gaps: random.chance(50),
+        promise_percent: if long { 3 } else { random.pick(&[5, 25, 50, 80]) },
+        gaps: random.pick(&GAPS),
     };
     let mut walk = Walk::new(run, random, head.threads, head.locations, manner);
     walk.turns(lines);
     match aim {
         Aim::Accepted => {}
-        Aim::Unfinished => walk.open_end(),
+        Aim::Unfinished => walk.open_end(50),
         Aim::Refused(wanted) => return refused_trace(&mut walk, wanted),
     }
     trace_text(&walk.trace)
@@ -129,12 +156,18 @@ fn trace<L: Language>(random: &mut Random, head: &Head, aim: Aim) -> Vec<u8> {
 /// The trace so far, lines that lead into a turn or a showing, the refused line, and anything.
 fn refused_trace<L: Language>(walk: &mut Walk<L>, wanted: Refusal) -> Vec<u8> {
     let mut refused = None;
-    for _ in 0..25 {
+    let promises = if about_promises(wanted) { 80 } else { 30 };
+    let kinds = Kind::refused(wanted);
+    let mut kind = walk.random.pick(kinds);
+    for attempt in 0..80 {
         let saved = (walk.run.clone(), walk.trace.len());
-        if walk.random.chance(85) {
-            walk.open_end();
+        if walk.random.chance(if wanted == Refusal::NotNow { 50 } else { 95 }) {
+            walk.open_end(promises);
         }
-        refused = walk.refused_line(wanted);
+        if attempt >= 60 {
+            kind = walk.random.pick(kinds);
+        }
+        refused = walk.refused_line(wanted, kind);
         if refused.is_some() {
             break;
         }

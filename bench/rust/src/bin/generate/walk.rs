@@ -8,14 +8,58 @@ use row_judge::store::Message;
 
 use crate::random::Random;
 
+/// The nine kinds of lines.
+#[derive(Clone, Copy, Debug, PartialEq, Eq)]
+pub enum Kind {
+    Turn,
+    Next,
+    Read,
+    Write,
+    Update,
+    Promise,
+    Keep,
+    Show,
+    End,
+}
+
+impl Kind {
+    pub const ALL: [Kind; 9] = [
+        Kind::Turn,
+        Kind::Next,
+        Kind::Read,
+        Kind::Write,
+        Kind::Update,
+        Kind::Promise,
+        Kind::Keep,
+        Kind::Show,
+        Kind::End,
+    ];
+
+    /// The kinds that can be refused so.
+    pub fn refused(refusal: Refusal) -> &'static [Kind] {
+        use Kind::{End, Keep, Next, Promise, Read, Update, Write};
+        match refusal {
+            Refusal::OtherKind => &[Next, Read, Write, Update, Keep],
+            Refusal::Owing => &[Next, Write, Update],
+            Refusal::NotThere | Refusal::Value => &[Read, Update, Keep],
+            Refusal::TooNew => &[Read, Write, Update, Promise, Keep],
+            Refusal::Span => &[Write, Update, Promise],
+            Refusal::ClosingLine => &[Write, Update],
+            Refusal::Full => &[Next, Write, Update, Promise],
+            Refusal::EndOwing => &[End],
+            _ => &Kind::ALL,
+        }
+    }
+}
+
 /// How a walk goes about its turns.
 #[derive(Clone, Copy)]
 pub struct Manner {
     pub turn_steps: usize,
     pub show_steps: usize,
     pub promise_percent: usize,
-    /// Whether spans of many lengths are chosen, with room between them, or only short ones.
-    pub wide_gaps: bool,
+    /// The lengths of spans, and of the room left between them.
+    pub gaps: &'static [u16],
 }
 
 pub struct Walk<'r, 'p, L: Language> {
@@ -63,10 +107,7 @@ impl<'r, 'p, L: Language> Walk<'r, 'p, L> {
     }
 
     fn gap(&mut self) -> u16 {
-        if !self.manner.wide_gaps {
-            return 1;
-        }
-        self.random.pick(&[1, 1, 1, 1, 2, 2, 3, 5, 20, 300]) as u16
+        self.random.pick(self.manner.gaps)
     }
 
     /// An end of a message of the location, likely one that may be read.
@@ -211,7 +252,8 @@ impl<'r, 'p, L: Language> Walk<'r, 'p, L> {
                 break;
             }
         }
-        if self.close() {
+        let idle = self.trace.len() == saved.1 + 1;
+        if !(idle && self.random.chance(98)) && self.close() {
             return true;
         }
         if let Some((run, length)) = promised {
@@ -236,23 +278,30 @@ impl<'r, 'p, L: Language> Walk<'r, 'p, L> {
     /// Turns until the trace has the wanted length or no more are found.
     pub fn turns(&mut self, lines: usize) {
         let mut failed = 0;
-        while self.trace.len() < lines && failed < 12 {
+        while self.trace.len() < lines && failed < 20 {
             let thread = self.random.below(self.threads);
-            if !self.turn(thread) {
-                failed += 1;
-            }
+            let before = self.trace.len();
+            let moved = self.turn(thread) && self.trace.len() > before + 2;
+            failed = if moved { 0 } else { failed + 1 };
         }
     }
 
-    /// Leaves the run inside a turn or a showing, if it comes to that.
-    pub fn open_end(&mut self) {
+    /// Leaves the run inside a turn or a showing, if it comes to that. Promises made here need
+    /// not be such that they can be kept.
+    pub fn open_end(&mut self, promises: usize) {
         let thread = self.random.below(self.threads);
         if self.take(Line::Turn(thread)).is_err() {
             return;
         }
-        for _ in 0..self.random.below(6) {
-            if self.random.chance(50) {
-                self.promise();
+        let steps = self.random.below(8);
+        for _ in 0..steps {
+            if self.random.chance(promises) {
+                if self.random.chance(75) {
+                    self.promise();
+                } else {
+                    let line = self.wild_of(Kind::Promise);
+                    let _ = self.take(line);
+                }
             }
             self.step();
         }
@@ -263,9 +312,23 @@ impl<'r, 'p, L: Language> Walk<'r, 'p, L> {
         }
     }
 
+    /// The location of the thread's next action, or any.
+    fn some_location(&mut self) -> usize {
+        match self.run.action(self.thread) {
+            Action::Read { location, .. }
+            | Action::Write { location, .. }
+            | Action::Update { location, .. }
+                if self.random.chance(80) =>
+            {
+                location
+            }
+            _ => self.random.below(self.locations),
+        }
+    }
+
     /// A number that tells something: an end, a neighbour of one, or a limit.
     fn wild_number(&mut self) -> u16 {
-        let location = self.random.below(self.locations);
+        let location = self.some_location();
         match self.random.below(10) {
             0 => 0,
             1 => self.random.pick(&[1, 2, 65_534, 65_535]),
@@ -274,39 +337,59 @@ impl<'r, 'p, L: Language> Walk<'r, 'p, L> {
             4 => self.some_end(location).saturating_sub(1),
             5 => self.some_end(location).saturating_add(1),
             6 => self.run.cur(self.thread).at(location),
-            _ => self.some_end(location),
+            _ => {
+                let ends: Vec<u16> = self.at(location).iter().map(|m| m.to).collect();
+                self.random.pick(&ends)
+            }
         }
     }
 
-    /// Any line of a trace with telling numbers.
-    pub fn wild(&mut self) -> Line {
-        let (from, to) = if self.random.chance(50) {
-            (self.wild_number(), self.wild_number())
+    /// The end of a promise of the thread, mostly.
+    fn wild_promise(&mut self) -> u16 {
+        let location = self.some_location();
+        let owed = self.owed(location);
+        if owed.is_empty() || self.random.chance(30) {
+            self.wild_number()
         } else {
-            let from = self.wild_number();
-            (from, from.saturating_add(1))
+            self.random.pick(&owed).0
+        }
+    }
+
+    /// A line of the kind with telling numbers.
+    fn wild_of(&mut self, kind: Kind) -> Line {
+        let from = self.wild_number();
+        let to = if self.random.chance(50) {
+            self.wild_number()
+        } else {
+            from.saturating_add(self.gap())
         };
-        match self.random.below(10) {
-            0 => Line::Turn(self.random.below(self.threads)),
-            1 => Line::Next,
-            2 => Line::Read(self.wild_number()),
-            3 | 4 => Line::Write { from, to },
-            5 => Line::Update { from, to },
-            6 => {
-                let location = self.random.below(self.locations);
+        match kind {
+            Kind::Turn => Line::Turn(self.random.below(self.threads)),
+            Kind::Next => Line::Next,
+            Kind::Read => Line::Read(from),
+            Kind::Write => Line::Write { from, to },
+            Kind::Update => Line::Update { from, to },
+            Kind::Promise => {
+                let location = self.some_location();
                 let value = self.random.below(3) as u16;
                 Line::Promise { location, value, from, to }
             }
-            7 => Line::Keep(self.wild_number()),
-            8 => Line::Show,
-            _ => Line::End,
+            Kind::Keep => Line::Keep(self.wild_promise()),
+            Kind::Show => Line::Show,
+            Kind::End => Line::End,
         }
     }
 
-    /// A line that is refused with the wanted refusal, if some tries find one.
-    pub fn refused_line(&mut self, wanted: Refusal) -> Option<Line> {
-        for _ in 0..60 {
-            let line = if self.random.chance(70) { self.wild() } else { self.likely() };
+    /// Any line with telling numbers.
+    pub fn wild(&mut self) -> Line {
+        let kind = self.random.pick(&Kind::ALL);
+        self.wild_of(kind)
+    }
+
+    /// A line of the kind that is refused with the wanted refusal, if some tries find one.
+    pub fn refused_line(&mut self, wanted: Refusal, kind: Kind) -> Option<Line> {
+        for _ in 0..12 {
+            let line = self.wild_of(kind);
             if self.run.clone().take(line) == Err(wanted) {
                 return Some(line);
             }
