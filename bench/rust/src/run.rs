@@ -18,14 +18,14 @@ struct Views {
 impl Views {
     const ZERO: Views = Views { cur: View::ZERO, acq: View::ZERO, rel: [View::ZERO; LOCATIONS] };
 
+    /// A message's view has its end at its location, so a join takes that in.
     #[inline(always)]
     fn read(&mut self, message: &Message, mode: ReadMode) {
-        self.cur.raise(message.location, message.to);
-        self.acq.raise(message.location, message.to);
-        self.acq.join(&message.view);
-        if mode == ReadMode::Acquire {
-            self.cur.join(&message.view);
+        match mode {
+            ReadMode::Relaxed => self.cur.raise(message.location, message.to),
+            ReadMode::Acquire => self.cur.join(&message.view),
         }
+        self.acq.join(&message.view);
     }
 
     /// Answers the view of the message that is written.

@@ -15,11 +15,16 @@ impl View {
         self.0[location % LOCATIONS]
     }
 
-    /// Takes in the view that is `end` at the location and 0 elsewhere.
+    /// Takes in the view that is `end` at the location and 0 elsewhere. All places are written,
+    /// so that the whole view can be read again without waiting for a narrow store.
     #[inline(always)]
     pub fn raise(&mut self, location: usize, end: u16) {
-        let place = &mut self.0[location % LOCATIONS];
-        *place = (*place).max(end);
+        const INDICES: [u16; LOCATIONS] = [0, 1, 2, 3, 4, 5, 6, 7];
+        let location = location as u16;
+        for (mine, index) in self.0.iter_mut().zip(INDICES) {
+            let theirs = if index == location { end } else { 0 };
+            *mine = (*mine).max(theirs);
+        }
     }
 
     #[inline(always)]
@@ -105,11 +110,15 @@ impl Row {
         &self.ends[..self.count]
     }
 
+    /// New messages mostly come last in their row, and those to be dropped stand there.
     #[inline(always)]
     fn insert(&mut self, end: u16, arrival: usize) {
-        let place = self.ends().partition_point(|&other| other <= end);
-        self.ends.copy_within(place..self.count, place + 1);
-        self.arrivals.copy_within(place..self.count, place + 1);
+        let mut place = self.count;
+        while place > 0 && self.ends[place - 1] > end {
+            self.ends[place] = self.ends[place - 1];
+            self.arrivals[place] = self.arrivals[place - 1];
+            place -= 1;
+        }
         self.ends[place] = end;
         self.arrivals[place] = arrival as u8;
         self.count += 1;
@@ -118,11 +127,13 @@ impl Row {
 
     #[inline(always)]
     fn remove(&mut self, end: u16, arrival: usize) {
-        self.members.remove(arrival);
-        if let Ok(place) = self.ends().binary_search(&end) {
-            self.ends.copy_within(place + 1..self.count, place);
-            self.arrivals.copy_within(place + 1..self.count, place);
+        if let Some(place) = self.ends().iter().rposition(|&other| other == end) {
+            for next in place + 1..self.count {
+                self.ends[next - 1] = self.ends[next];
+                self.arrivals[next - 1] = self.arrivals[next];
+            }
             self.count -= 1;
+            self.members.remove(arrival);
         }
     }
 }
