@@ -38,6 +38,17 @@ fn damaged_line(random: &mut Random, line: &str) -> String {
     words.join(" ") + "\n"
 }
 
+/// One of the lines; each letter that stands among them is as likely as the others.
+fn some_line(random: &mut Random, lines: &[String]) -> usize {
+    let mut letters: Vec<char> = lines.iter().filter_map(|line| line.chars().next()).collect();
+    letters.sort_unstable();
+    letters.dedup();
+    let letter = random.pick(&letters);
+    let places: Vec<usize> =
+        (0..lines.len()).filter(|&place| lines[place].starts_with(letter)).collect();
+    random.pick(&places)
+}
+
 /// Damages one line of one section, now and then twice; the head fits what comes out.
 pub fn damage_line(random: &mut Random, job: &mut Job) {
     let filled: Vec<usize> =
@@ -48,7 +59,7 @@ pub fn damage_line(random: &mut Random, job: &mut Job) {
     let section = &mut job.sections[random.pick(&filled)];
     let text = String::from_utf8_lossy(section).into_owned();
     let mut lines: Vec<String> = text.split_inclusive('\n').map(String::from).collect();
-    let place = random.below(lines.len());
+    let place = some_line(random, &lines);
     let times = if random.chance(25) { 2 } else { 1 };
     for _ in 0..times {
         let bare = lines[place].trim_end_matches('\n').to_owned();

@@ -40,7 +40,12 @@ const GAPS: [&[u16]; 5] =
 fn about_promises(refusal: Refusal) -> bool {
     matches!(
         refusal,
-        Refusal::Owing | Refusal::ClosingLine | Refusal::EndOwing | Refusal::Value | Refusal::TooNew
+        Refusal::NotNow
+            | Refusal::Owing
+            | Refusal::ClosingLine
+            | Refusal::EndOwing
+            | Refusal::Value
+            | Refusal::TooNew
     )
 }
 
@@ -69,12 +74,21 @@ pub fn job(seed: u64, number: u64) -> Vec<u8> {
             damage_pairs(&mut random, &job)
         }
         88 => long_program(&mut random).bytes(),
-        89 if random.chance(20) => long_file(&mut random),
-        _ => {
-            let bytes = job_with(&mut random, Aim::Accepted).bytes();
-            damage_bytes(&mut random, bytes)
-        }
+        89 if random.chance(40) => long_file(&mut random),
+        _ => damaged_job(&mut random),
     }
+}
+
+/// Bytes changed anywhere in the file, or in one section with a head that fits.
+fn damaged_job(random: &mut Random) -> Vec<u8> {
+    let mut job = job_with(random, Aim::Accepted);
+    if random.chance(40) {
+        return damage_bytes(random, job.bytes());
+    }
+    let place = random.below(job.sections.len());
+    let section = std::mem::take(&mut job.sections[place]);
+    job.sections[place] = damage_bytes(random, section);
+    job.bytes()
 }
 
 /// A job that is refused so, or, when some programs give no way to that, an accepted one.
@@ -156,12 +170,12 @@ fn trace<L: Language>(random: &mut Random, head: &Head, aim: Aim) -> Vec<u8> {
 /// The trace so far, lines that lead into a turn or a showing, the refused line, and anything.
 fn refused_trace<L: Language>(walk: &mut Walk<L>, wanted: Refusal) -> Vec<u8> {
     let mut refused = None;
-    let promises = if about_promises(wanted) { 80 } else { 30 };
+    let promises = if about_promises(wanted) { 80 } else { 40 };
     let kinds = Kind::refused(wanted);
     let mut kind = walk.random.pick(kinds);
     for attempt in 0..80 {
         let saved = (walk.run.clone(), walk.trace.len());
-        if walk.random.chance(if wanted == Refusal::NotNow { 50 } else { 95 }) {
+        if walk.random.chance(if wanted == Refusal::NotNow { 85 } else { 95 }) {
             walk.open_end(promises);
         }
         if attempt >= 60 {
@@ -202,12 +216,20 @@ fn long_program(random: &mut Random) -> Job {
     job
 }
 
-/// A file at the limit of its length, or just above.
+/// A file at the limit of its length, or just above: an accepted one with turns that do nothing
+/// up to there, or one with any bytes behind it.
 fn long_file(random: &mut Random) -> Vec<u8> {
-    let job = job_with(random, Aim::Accepted);
-    let mut bytes = job.bytes();
+    let mut job = job_with(random, Aim::Accepted);
     let length = random.pick(&[65_534, 65_535, 65_536, 65_537, 70_000]);
+    if random.chance(60) {
+        let left = length - job.bytes().len();
+        let trace = job.sections.last_mut().expect("the trace");
+        for _ in 0..left / 6 {
+            trace.extend(b"T 0\nE\n");
+        }
+        return job.bytes();
+    }
+    let mut bytes = job.bytes();
     bytes.resize(length, random.pick(b"N\n 0\0"));
     bytes
 }
-

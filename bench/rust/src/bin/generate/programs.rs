@@ -10,14 +10,15 @@ pub enum Taste {
     Writes,
     Prints,
     Updates,
+    Fences,
 }
 
 pub fn taste(random: &mut Random) -> Taste {
-    let tastes = [Taste::Any, Taste::Any, Taste::Buffering, Taste::Buffering, Taste::Buffering];
-    if random.chance(70) {
-        random.pick(&tastes)
-    } else {
-        random.pick(&[Taste::Writes, Taste::Prints, Taste::Updates])
+    match random.below(10) {
+        0..=2 => Taste::Any,
+        3..=5 => Taste::Buffering,
+        6 | 7 => Taste::Fences,
+        _ => random.pick(&[Taste::Writes, Taste::Prints, Taste::Updates]),
     }
 }
 
@@ -32,9 +33,19 @@ fn value(random: &mut Random) -> usize {
     }
 }
 
-/// 1 in some of the hundred cases, else 0.
-fn mode(random: &mut Random, percent: usize) -> usize {
-    usize::from(random.chance(percent))
+/// A read mode and a write mode.
+fn modes(random: &mut Random, taste: Taste) -> (usize, usize) {
+    let (acquire, release) = if taste == Taste::Fences { (40, 35) } else { (30, 20) };
+    (usize::from(random.chance(acquire)), usize::from(random.chance(release)))
+}
+
+/// Outside of programs about fences mostly the one that may be taken while something is owed.
+fn fence(random: &mut Random, taste: Taste) -> usize {
+    if taste == Taste::Fences || random.chance(50) {
+        random.below(4)
+    } else {
+        0
+    }
 }
 
 fn letter(random: &mut Random, taste: Taste, any: &str) -> u8 {
@@ -44,6 +55,7 @@ fn letter(random: &mut Random, taste: Taste, any: &str) -> u8 {
         Taste::Writes => "SSSSSSSSSSCL",
         Taste::Prints => "PPPPPPPPCSL",
         Taste::Updates => "UUUUUUKKKKCSLF",
+        Taste::Fences => "LLLLSSSSFFFUC",
     };
     random.pick(letters.as_bytes())
 }
@@ -83,8 +95,8 @@ fn register_line(
     let r = if random.chance(80) { random.below(3) } else { random.below(few) };
     let s = if random.chance(80) { random.below(3) } else { random.below(8) };
     let u = random.below(4);
-    let fence = random.pick(&[0, 0, 0, 1, 2, 3]);
-    let (read, write) = (mode(random, 30), mode(random, 20));
+    let fence = fence(random, taste);
+    let (read, write) = modes(random, taste);
     match letter {
         b'C' => format!("C {r} {}\n", value(random)),
         b'A' => format!("A {r} {s} {u}\n"),
@@ -112,8 +124,8 @@ pub fn strip_program(random: &mut Random, locations: usize, taste: Taste) -> Str
         let x = random.below(locations);
         let v = value(random);
         let wanted = if random.chance(75) { 0 } else { v };
-        let fence = random.pick(&[0, 0, 0, 1, 2, 3]);
-        let (read, write) = (mode(random, 30), mode(random, 20));
+        let fence = fence(random, taste);
+        let (read, write) = modes(random, taste);
         text += &match letter {
             b'L' => format!("R {x} {wanted} {read}\n"),
             b'S' | b'C' | b'A' => format!("S {x} {v} {write}\n"),

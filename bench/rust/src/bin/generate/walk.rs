@@ -138,11 +138,11 @@ impl<'r, 'p, L: Language> Walk<'r, 'p, L> {
         (from, from.saturating_add(self.gap()))
     }
 
-    /// Ends of the thread's promises at the location.
-    fn owed(&self, location: usize) -> Vec<(u16, u16)> {
+    /// Ends and values of the thread's promises at the location.
+    fn owed(&self, thread: usize, location: usize) -> Vec<(u16, u16)> {
         let messages = self.run.messages().iter().enumerate();
         messages
-            .filter(|(k, m)| m.location == location && self.run.owing(*k) == Some(self.thread))
+            .filter(|(k, m)| m.location == location && self.run.owing(*k) == Some(thread))
             .map(|(_, m)| (m.to, m.value))
             .collect()
     }
@@ -162,7 +162,7 @@ impl<'r, 'p, L: Language> Walk<'r, 'p, L> {
                 }
             }
             Action::Write { location, value, mode } => {
-                let owed = self.owed(location);
+                let owed = self.owed(self.thread, location);
                 let kept: Vec<u16> =
                     owed.iter().filter(|(_, v)| *v == value).map(|(end, _)| *end).collect();
                 if mode == WriteMode::Relaxed && !kept.is_empty() && self.random.chance(80) {
@@ -306,8 +306,11 @@ impl<'r, 'p, L: Language> Walk<'r, 'p, L> {
             self.step();
         }
         if self.random.chance(60) && self.take(Line::Show).is_ok() {
-            for _ in 0..self.random.below(6) {
-                self.step();
+            let steps = if self.random.chance(50) { 30 } else { self.random.below(6) };
+            for _ in 0..steps {
+                if !self.step() {
+                    break;
+                }
             }
         }
     }
@@ -344,10 +347,15 @@ impl<'r, 'p, L: Language> Walk<'r, 'p, L> {
         }
     }
 
-    /// The end of a promise of the thread, mostly.
+    /// The end of a promise, mostly, of this thread or of any.
     fn wild_promise(&mut self) -> u16 {
         let location = self.some_location();
-        let owed = self.owed(location);
+        let thread = if self.random.chance(70) {
+            self.thread
+        } else {
+            self.random.below(self.threads)
+        };
+        let owed = self.owed(thread, location);
         if owed.is_empty() || self.random.chance(30) {
             self.wild_number()
         } else {
