@@ -1,4 +1,4 @@
-//! A judge of job files in plain safe Rust, written apart from the proved one: to compare reports
+//! A judge of job files in plain safe Rust that shares no code with the proved one: to compare reports
 //! and to compare speed. It keeps each location's messages in order of their ends.
 
 #![forbid(unsafe_code)]
@@ -61,9 +61,8 @@ pub struct Head<'a> {
 
 impl<'a> Head<'a> {
     pub fn read(file: &'a [u8]) -> Result<Self, Refused> {
-        let refused = |line: usize| {
-            move |refusal| Refused { refusal, section: 0, line: line as u16 }
-        };
+        let refused =
+            |line: usize| move |refusal| Refused { refusal, section: 0, line: line as u16 };
         let mut reader = Reader::new(file);
         let (language, threads, locations) = first_line(&mut reader).map_err(refused(1))?;
         let mut pairs = [[0; 2]; THREADS + 1];
@@ -116,9 +115,8 @@ fn section_line(reader: &mut Reader) -> Result<[u16; 2], Refusal> {
 pub fn programs<L: Language>(head: &Head) -> Result<[Program<L::Line>; THREADS], Refused> {
     let mut programs = [Program::EMPTY; THREADS];
     for (thread, program) in programs[..head.threads].iter_mut().enumerate() {
-        *program = Program::read::<L>(head.sections[thread], head.locations).map_err(
-            |(refusal, line)| Refused { refusal, section: thread as u16 + 1, line },
-        )?;
+        *program = Program::read::<L>(head.sections[thread], head.locations)
+            .map_err(|(refusal, line)| Refused { refusal, section: thread as u16 + 1, line })?;
     }
     Ok(programs)
 }

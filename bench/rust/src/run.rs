@@ -150,9 +150,7 @@ impl<'a, L: Language> Run<'a, L> {
             Line::Read(end) => self.read(end),
             Line::Write { from, to } => self.write(from, to),
             Line::Update { from, to } => self.update(from, to),
-            Line::Promise { location, value, from, to } => {
-                self.promise(location, value, from, to)
-            }
+            Line::Promise { location, value, from, to } => self.promise(location, value, from, to),
             Line::Keep(end) => self.keep(end),
             Line::Show => self.show(),
             Line::End => self.end(),

@@ -98,12 +98,8 @@ struct Row {
 }
 
 impl Row {
-    const EMPTY: Row = Row {
-        ends: [0; CAPACITY],
-        arrivals: [0; CAPACITY],
-        count: 0,
-        members: Arrivals::NONE,
-    };
+    const EMPTY: Row =
+        Row { ends: [0; CAPACITY], arrivals: [0; CAPACITY], count: 0, members: Arrivals::NONE };
 
     #[inline(always)]
     fn ends(&self) -> &[u16] {

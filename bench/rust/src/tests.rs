@@ -4,7 +4,9 @@ use crate::judge;
 fn job(language: u8, locations: u8, sections: &[&str]) -> Vec<u8> {
     let sections: Vec<String> = sections
         .iter()
-        .map(|text| text.split(',').filter(|line| !line.is_empty()).map(|l| format!("{l}\n")).collect())
+        .map(|text| {
+            text.split(',').filter(|line| !line.is_empty()).map(|l| format!("{l}\n")).collect()
+        })
         .collect();
     let mut head = String::new();
     loop {
@@ -93,11 +95,8 @@ fn own_promise() {
 
 #[test]
 fn sequential_fences() {
-    let sections = [
-        "S 0 1 0,F 3,R 1 0 0",
-        "S 1 1 0,F 3,R 0 0 0",
-        "T 0,W 0 1,N,R 0,E,T 1,W 0 1,N,R 0,E",
-    ];
+    let sections =
+        ["S 0 1 0,F 3,R 1 0 0", "S 1 1 0,F 3,R 0 0 0", "T 0,W 0 1,N,R 0,E,T 1,W 0 1,N,R 0,E"];
     check(1, 2, &sections, "NO 11 2 3 9\n");
 }
 

@@ -4,10 +4,32 @@ use crate::random::Random;
 use crate::text::Job;
 
 const NUMBERS: [&str; 26] = [
-    "65536", "65535", "70000", "99999", "100000", "4294967296", "4294967297", "65536000000",
-    "18446744073709551616", "18446744073709551617", "340282366920938463463374607431768211456",
-    "99999999999999999999999999999999999999999999", "0", "1", "2", "3", "4", "5", "8", "9", "64",
-    "65", "00", "01", "007", "000000000000000000000000000000000000000000001",
+    "65536",
+    "65535",
+    "70000",
+    "99999",
+    "100000",
+    "4294967296",
+    "4294967297",
+    "65536000000",
+    "18446744073709551616",
+    "18446744073709551617",
+    "340282366920938463463374607431768211456",
+    "99999999999999999999999999999999999999999999",
+    "0",
+    "1",
+    "2",
+    "3",
+    "4",
+    "5",
+    "8",
+    "9",
+    "64",
+    "65",
+    "00",
+    "01",
+    "007",
+    "000000000000000000000000000000000000000000001",
 ];
 const NO_NUMBERS: [&str; 12] =
     ["", "-1", "+1", "1.0", "0x1", "a", " 1", "1 ", "1\t", "\u{0}", "1\r", "\u{661}"];
@@ -17,7 +39,12 @@ const NO_NUMBERS: [&str; 12] =
 fn damaged_line(random: &mut Random, line: &str) -> String {
     let mut words: Vec<String> = line.split(' ').map(String::from).collect();
     let field = if words.len() > 1 { random.within(1, words.len() - 1) } else { 0 };
-    match random.below(20) {
+    match random.below(24) {
+        20..=23 if field > 0 => {
+            // Around the numbers of threads, locations, modes and registers.
+            let place = if random.chance(60) { 1 } else { field };
+            words[place] = random.within(1, 9).to_string();
+        }
         0..=6 if field > 0 => words[field] = random.pick(&NUMBERS).into(),
         7 | 8 if field > 0 => words[field] = random.pick(&NO_NUMBERS).into(),
         9 if field > 0 => words[field] = format!("0{}", words[field]),

@@ -107,13 +107,20 @@ fn refused_job(random: &mut Random, wanted: Refusal) -> Vec<u8> {
 
 fn empty_job(random: &mut Random, aim: Aim) -> Job {
     let language = random.below(2);
-    let threads = random.within(1, 4);
-    let locations = if random.chance(60) { random.within(1, 3) } else { random.within(1, 8) };
     let full = aim == Aim::Refused(Refusal::Full);
+    let views = !full && random.chance(30);
+    let threads = if views { random.within(2, 4) } else { random.within(1, 4) };
+    let locations = match random.below(5) {
+        _ if views => random.within(2, 4),
+        0..=2 => random.within(1, 3),
+        _ => random.within(1, 8),
+    };
     let mut sections = Vec::new();
     for _ in 0..threads {
         let taste = if full {
             random.pick(&[Taste::Writes, Taste::Prints, Taste::Updates])
+        } else if views {
+            Taste::Fences
         } else {
             taste(random)
         };

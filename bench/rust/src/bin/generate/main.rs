@@ -30,7 +30,9 @@ fn main() -> ExitCode {
         ["one", seed, number] => write_one(seed, number),
         ["big", kind, seed] => write_big(kind, seed),
         ["kinds"] => std::io::stdout().write_all((big::KINDS.join("\n") + "\n").as_bytes()),
-        _ => Err(std::io::Error::other("jobs SEED COUNT DIRECTORY | pack SEED COUNT | one SEED NUMBER | big KIND SEED | kinds")),
+        _ => Err(std::io::Error::other(
+            "jobs SEED COUNT DIRECTORY | pack SEED COUNT | one SEED NUMBER | big KIND SEED | kinds",
+        )),
     };
     match done {
         Ok(()) => ExitCode::SUCCESS,
@@ -49,7 +51,10 @@ fn write_jobs(seed: &str, count: &str, directory: &str) -> std::io::Result<()> {
     let seed = number(seed)?;
     std::fs::create_dir_all(directory)?;
     for index in 0..number(count)? {
-        std::fs::write(Path::new(directory).join(format!("{index:06}.job")), jobs::job(seed, index))?;
+        std::fs::write(
+            Path::new(directory).join(format!("{index:06}.job")),
+            jobs::job(seed, index),
+        )?;
     }
     Ok(())
 }

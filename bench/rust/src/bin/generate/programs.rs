@@ -16,8 +16,8 @@ pub enum Taste {
 pub fn taste(random: &mut Random) -> Taste {
     match random.below(10) {
         0..=2 => Taste::Any,
-        3..=5 => Taste::Buffering,
-        6 | 7 => Taste::Fences,
+        3..=6 => Taste::Buffering,
+        7 => Taste::Fences,
         _ => random.pick(&[Taste::Writes, Taste::Prints, Taste::Updates]),
     }
 }
@@ -68,7 +68,7 @@ pub fn register_program(random: &mut Random, locations: usize, taste: Taste) -> 
         _ => random.within(3, 14),
     };
     let mut text = String::new();
-    let loops = random.chance(60);
+    let loops = random.chance(if taste == Taste::Fences { 25 } else { 60 });
     for line in 0..count {
         if line == 0 && loops {
             text += "C 7 1\n";

@@ -350,12 +350,10 @@ impl<'r, 'p, L: Language> Walk<'r, 'p, L> {
     /// The end of a promise, mostly, of this thread or of any.
     fn wild_promise(&mut self) -> u16 {
         let location = self.some_location();
-        let thread = if self.random.chance(70) {
-            self.thread
-        } else {
-            self.random.below(self.threads)
-        };
-        let owed = self.owed(thread, location);
+        let mut owed = self.owed(self.thread, location);
+        if owed.is_empty() || self.random.chance(30) {
+            owed.extend((0..self.threads).flat_map(|thread| self.owed(thread, location)));
+        }
         if owed.is_empty() || self.random.chance(30) {
             self.wild_number()
         } else {
