@@ -10,7 +10,7 @@ if [ $# -eq 0 ]; then
 fi
 count=0
 differ=0
-for job in "$root"/examples/*.job; do
+for job in "$root"/bench/examples/*.job; do
     count=$((count + 1))
     if ! "$@" <"$job" 2>/dev/null | cmp -s - "${job%.job}.report"; then
         differ=$((differ + 1))
