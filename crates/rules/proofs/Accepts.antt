@@ -2,12 +2,12 @@
 use mathlib.Core.Path.{_≡_, refl, sym, ap, _∙_, subst}
 use mathlib.Core.List.{List, [], _∷_, _++_, append-nil}
 use mathlib.Core.Bool.{Bool, true, false, cond, _&&_}
-use Prim.Native.Nat.{ℕ, _+_, _≤_, _<_}
+use Prim.Native.Nat.{ℕ, _≤_, _<_}
 use native.Mathlib.Omega.{arith}
 use lib.Dec.{ltb, leb, eqb}
-use lib.ListN.{length, getD, set}
+use lib.ListN.{length}
 use Rattle.std.proofs.shelf.Lists.{length-push}
-use Rattle.std.proofs.shelf.Tests.{and-parts, leb-true, ltb-true, eqb-true, cond-both, cases-bool, cond-true, cond-false}
+use Rattle.std.proofs.shelf.Tests.{and-parts, leb-true, ltb-true, eqb-true, cond-both}
 use Rattle.std.specs.declared.option.Option.{Option}
 use Rattle.std.specs.declared.option.Option.the-variants.{Some, None}
 use Rattle.lines.specs.declared.trace.Line.{Line}
@@ -30,13 +30,13 @@ use Rattle.stores.specs.Memory.{zero-message, find, is-free}
 use Rattle.stores.specs.StoreLaws.{In, Free, Ends-at}
 use Rattle.stores.proofs.StoreLaws.{in-at, is-free-sound, find-from-some}
 use Rattle.rules.specs.declared.fault.StepFault.{StepFault}
-use Rattle.rules.specs.declared.fault.StepFault.the-variants.{Kind, Owing, NoMessage, TooNew, Value, Span, ClosingLine, Store, LogFull}
+use Rattle.rules.specs.declared.fault.StepFault.the-variants.{Owing, TooNew, Value, Span, ClosingLine, Store, LogFull}
 use Rattle.rules.specs.Models.{Views, Thread, Part}
-use Rattle.rules.specs.Threads.{next-of, reads, read-views, write-views, acquire-views, release-views, both-views, all-views, none-owed, marked, owes-at, find-owed}
+use Rattle.rules.specs.Threads.{next-of, reads, read-views, write-views, acquire-views, release-views, both-views, all-views, none-owed, find-owed}
 use Rattle.rules.specs.Rules.{Tried, went, refused, unless, message-at, goes-on, with-thread, fence-result, print-result, next-at, read-taking, read-found, read-at, release-owes, above, span-refusal, write-refusal, adds, written, write-at, update-views, updated-message, update-taking, update-found, update-at, keeps, keep-found, keep-at, act-result}
-use Rattle.rules.specs.Alone.{Lone, lone, Owes-nothing-at, went-on, kept, Above, Alone, silent, acquire-fence, release-fence, both-fence, sequential-fence, print, read, write, update, keep}
+use Rattle.rules.specs.Alone.{lone, Owes-nothing-at, went-on, kept, Above, Alone, silent, acquire-fence, release-fence, both-fence, sequential-fence, print, read, write, update, keep}
 use Rattle.rules.specs.Steps.{printed, Marks}
-use Rattle.rules.proofs.Marked.{nothing, owes-at-sound, marked-more, bare-more, marked-split, marks-keep, find-owed-some}
+use Rattle.rules.proofs.Marked.{none-some, nothing, owes-at-sound, marked-more, bare-more, marked-split, marks-keep, find-owed-some}
 
 -- where it went
 abbrev pub When : {Y : Type 0} → (Y → Type 0) → Tried Y → Type 0
@@ -52,19 +52,13 @@ pub record Acted (l i : ℕ) (closing : Option View) (line : Line) (p p′ : Par
   pub log : p′ .log ≡ p .log ++ printed i (next-of l (p .thread .does))
   pub prints : length (p′ .log) ≤ 64
 
-no-fault : (e : StepFault) → _≡_ {A = Option StepFault} (Some e) None → ⊥
-no-fault e h = let z : _≡_ {A = ℕ} 0 1 = cc in omega arith
-
-pub no-reads : {Y : Type 0} (q : Y) → _≡_ {A = Option Y} None (Some q) → ⊥
-no-reads q h = let z : _≡_ {A = ℕ} 0 1 = cc in omega arith
-
 -- a test that did not refuse
 pub passed : (b : Bool) (e : StepFault) (o : Option StepFault) → cond b o (Some e) ≡ None → (b ≡ true) × (o ≡ None)
 passed true e o h = (refl, h)
-passed false e o h = absurd (no-fault e h)
+passed false e o h = absurd (none-some e (sym h))
 
 pub missed : (b : Bool) (e : StepFault) (o : Option StepFault) → cond b (Some e) o ≡ None → (b ≡ false) × (o ≡ None)
-missed true e o h = absurd (no-fault e h)
+missed true e o h = absurd (none-some e (sym h))
 missed false e o h = (refl, h)
 
 pub above-sound : (closing : Option View) (x f : ℕ) → above closing x f ≡ true → Above closing x f
@@ -85,7 +79,7 @@ reads-print i (Read x o) q h = refl
 reads-print i (Write x v o) q h = refl
 reads-print i (Update x o w) q h = refl
 reads-print i (Fence o) q h = refl
-reads-print i (Print v) q h = absurd (no-reads q h)
+reads-print i (Print v) q h = absurd (none-some q h)
 reads-print i Ended q h = refl
 
 -- the message that is found

@@ -1,9 +1,9 @@
 -- The rules as a definition and as a relation agree. Assumes nothing.
 use mathlib.Core.Path.{_≡_, refl, sym, ap, _∙_, subst}
 use mathlib.Core.List.{List, [], _∷_, _++_}
-use mathlib.Core.Logic.{_⊎_, inl, inr}
-use mathlib.Core.Bool.{Bool, true, false, cond}
-use Prim.Native.Nat.{ℕ, _+_, _≤_, _<_}
+use mathlib.Core.Logic.{inl, inr}
+use mathlib.Core.Bool.{false}
+use Prim.Native.Nat.{ℕ, _≤_, _<_}
 use native.Mathlib.Omega.{arith}
 use lib.Dec.{ltb}
 use lib.ListN.{length}
@@ -19,9 +19,9 @@ use Rattle.stores.specs.Views.{at}
 use Rattle.stores.specs.StoreLaws.{Free}
 use Rattle.rules.specs.declared.fault.StepFault.{StepFault}
 use Rattle.rules.specs.declared.fault.StepFault.the-variants.{Range, Moment, TooNew, StillOwing}
-use Rattle.rules.specs.Models.{Views, Thread, Part, Saved, Phase, between, turn, showing, Run, thread-at, part-at, with-part, in-phase}
+use Rattle.rules.specs.Models.{Thread, Part, Phase, between, turn, showing, Run, thread-at, part-at, with-part, in-phase}
 use Rattle.rules.specs.Threads.{next-of, none-owed, marked}
-use Rattle.rules.specs.Rules.{Tried, went, refused, unless, span-refusal, adds, promised-message, owing, promise-result, act-result, lifted, act-in, promise-in, begin-in, closing-line, saved, show-in, put-back, end-in, line-result}
+use Rattle.rules.specs.Rules.{went, refused, unless, span-refusal, adds, promised-message, owing, promise-result, act-result, lifted, act-in, promise-in, begin-in, closing-line, saved, show-in, put-back, end-in, line-result}
 use Rattle.rules.specs.Alone.{Lone, lone, Owes-nothing, Alone, silent, acquire-fence, release-fence, both-fence, sequential-fence, print, read, write, update, keep}
 use Rattle.rules.specs.Steps.{lone-at, printed, Marks, Acting, in-turn, in-showing, Step, begins, acts, promises, shows, ends-turn, ends-showing}
 use Rattle.rules.specs.Laws.{Agreement}
@@ -29,7 +29,7 @@ use Rattle.rules.proofs.Marked.{nothing, something, owes-none, marks-same}
 use Rattle.rules.proofs.Accepts.{When, Acted}
 use Rattle.rules.proofs.Preserved.{step-holds}
 use Rattle.rules.proofs.Complete.{complete, span-complete, adds-complete}
-use Rattle.rules.proofs.Sound.{Good, Sound, Sound-at, Promised, promising, acting, holds-at}
+use Rattle.rules.proofs.Sound.{Good, Sound, Sound-at, Promised, promising, acting, when-lifted, holds-at}
 
 pub sound-good : (r : Run) → Sound r → Good r
 sound-good r h = go (r .phase) h
@@ -40,15 +40,11 @@ sound-good r h = go (r .phase) h
     go (showing i s cl) t = t .good
 
 module _ (r : Run) (g : Good r) where
-  lifted-steps : (i : ℕ) (F : Part → Type 0) (line : Line) (t : Tried Part) → When F t → ((p : Part) → F p → Step r line (with-part r i p)) → When (Step r line) (lifted r i t)
-  lifted-steps i F line (went p) h go = go p h
-  lifted-steps i F line (refused e) h go = tt
-
   -- an accepted line is a step
 
   acted-step : (i : ℕ) (closing : Option View) (line : Line) → Acting r i closing → When (Step r line) (lifted r i (act-result (r .locations) i closing line (part-at r i)))
   acted-step i closing line act =
-      lifted-steps i (λ p. Acted (r .locations) i closing line (part-at r i) p) line (act-result (r .locations) i closing line (part-at r i)) (acting r i closing line g)
+      when-lifted r i (λ p. Acted (r .locations) i closing line (part-at r i) p) (Step r line) (act-result (r .locations) i closing line (part-at r i)) (acting r i closing line g)
       (λ p a. done p a)
     where
       done : (p : Part) → Acted (r .locations) i closing line (part-at r i) p → Step r line (with-part r i p)
@@ -74,7 +70,7 @@ module _ (r : Run) (g : Good r) where
   promise-steps : (x v f t : ℕ) (ph : Phase) → x < r .locations → r .phase ≡ ph → When (Step r (G x v f t)) (promise-in r x v f t ph)
   promise-steps x v f t between lt e = tt
   promise-steps x v f t (turn i) lt e =
-      lifted-steps i (Promised r i x v f t) (G x v f t) (promise-result x v f t (part-at r i)) (promising r i x v f t)
+      when-lifted r i (Promised r i x v f t) (Step r (G x v f t)) (promise-result x v f t (part-at r i)) (promising r i x v f t)
       (λ p a. subst (λ (q : Part). Step r (G x v f t) (with-part r i q)) (sym (a .is)) (promises i x v f t e lt (a .new) (a .span) (a .free) (a .room)))
   promise-steps x v f t (showing i s cl) lt e = tt
 

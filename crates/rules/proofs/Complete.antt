@@ -1,19 +1,18 @@
 -- Every step of the relation is let through. Assumes nothing.
 use mathlib.Core.Path.{_≡_, refl, sym, ap, _∙_, subst}
 use mathlib.Core.List.{List, [], _∷_, _++_}
-use mathlib.Core.Logic.{_⊎_, inl, inr}
-use mathlib.Core.Bool.{Bool, true, false, cond, _&&_}
-use Prim.Native.Nat.{ℕ, _+_, _≤_, _<_}
+use mathlib.Core.Logic.{inl}
+use mathlib.Core.Bool.{true, false, cond, _&&_}
+use Prim.Native.Nat.{ℕ, _≤_, _<_}
 use native.Mathlib.Omega.{arith}
 use lib.Dec.{ltb, leb, eqb}
-use lib.ListN.{length, getD, set}
+use lib.ListN.{length, set}
 use Rattle.std.proofs.shelf.Lists.{length-push}
 use Rattle.std.proofs.shelf.Tests.{and-from, le-leb, lt-ltb, eq-eqb, cond-true, cond-false}
 use Rattle.std.specs.declared.option.Option.{Option}
 use Rattle.std.specs.declared.option.Option.the-variants.{Some, None}
 use Rattle.lines.specs.declared.trace.Line.{Line}
 use Rattle.languages.specs.declared.action.Action.{Action}
-use Rattle.languages.specs.declared.action.Action.the-variants.{Print}
 use Rattle.languages.specs.declared.action.WriteMode.{WriteMode}
 use Rattle.languages.specs.declared.action.WriteMode.the-variants.{Relaxed, Release}
 use Rattle.languages.specs.Behaviours.{after}
@@ -28,7 +27,7 @@ use Rattle.rules.specs.declared.fault.StepFault.{StepFault}
 use Rattle.rules.specs.declared.fault.StepFault.the-variants.{Owing, TooNew, Value, Span, ClosingLine, Store, LogFull}
 use Rattle.rules.specs.Models.{Views, Thread, Part}
 use Rattle.rules.specs.Threads.{next-of, read-views, write-views, acquire-views, release-views, both-views, all-views, none-owed, marked, find-owed}
-use Rattle.rules.specs.Rules.{Tried, went, refused, unless, message-at, goes-on, with-thread, next-at, read-taking, read-found, read-at, release-owes, above, span-refusal, write-refusal, adds, written, write-at, update-views, updated-message, update-taking, update-found, update-at, keeps, keep-found, keep-at, act-result}
+use Rattle.rules.specs.Rules.{went, refused, unless, message-at, goes-on, with-thread, next-at, read-taking, read-found, read-at, release-owes, above, span-refusal, write-refusal, adds, written, write-at, update-views, updated-message, update-taking, update-found, update-at, keeps, keep-found, keep-at, act-result}
 use Rattle.rules.specs.Alone.{Lone, lone, Owes-nothing-at, went-on, Above, Alone, silent, acquire-fence, release-fence, both-fence, sequential-fence, print, read, write, update, keep}
 use Rattle.rules.specs.Steps.{printed, Marks}
 use Rattle.rules.specs.Laws.{Apart}

@@ -1,9 +1,9 @@
 -- Every run is lawful. Assumes nothing.
 use mathlib.Core.Path.{_≡_, refl, sym, ap, _∙_, subst}
 use mathlib.Core.List.{List, [], _∷_, _++_, map}
-use mathlib.Core.Logic.{_⊎_, inl, inr}
-use mathlib.Core.Bool.{Bool, true, false, cond, _&&_}
-use Prim.Native.Nat.{ℕ, zero, suc, _+_, _≤_, _<_}
+use mathlib.Core.Logic.{inl}
+use mathlib.Core.Bool.{false, cond, _&&_}
+use Prim.Native.Nat.{ℕ, zero, suc, _≤_, _<_}
 use native.Mathlib.Omega.{arith}
 use lib.Dec.{ltb, leb}
 use lib.ListN.{length, take, getD, replicate, length-replicate}
@@ -11,24 +11,22 @@ use Rattle.std.proofs.shelf.Lists.{length-push}
 use Rattle.std.proofs.shelf.Tests.{and-parts, leb-true, cond-both}
 use Rattle.lines.specs.declared.trace.Line.{Line}
 use Rattle.languages.specs.Behaviours.{Behaviour}
-use Rattle.stores.specs.declared.view.View.{View}
 use Rattle.stores.specs.declared.message.Message.{Message}
 use Rattle.stores.specs.declared.kept.StoreFault.the-variants.{Full}
 use Rattle.stores.specs.Views.{at, zero-view}
 use Rattle.stores.specs.StoreLaws.{In}
-use Rattle.stores.proofs.ViewLaws.{at-zero}
 use Rattle.rules.specs.declared.fault.StepFault.the-variants.{Range, Store}
 use Rattle.rules.specs.Models.{Thread, Phase, between, turn, showing, Run, fresh, nobody, thread-at}
 use Rattle.rules.specs.Threads.{marked}
-use Rattle.rules.specs.Rules.{Tried, went, refused, initial, initials, new-run, made}
-use Rattle.rules.specs.Alone.{lone, Within, done}
+use Rattle.rules.specs.Rules.{went, refused, initial, initials, new-run, made}
+use Rattle.rules.specs.Alone.{Within, done}
 use Rattle.rules.specs.Steps.{lone-at, Marks}
-use Rattle.rules.specs.Histories.{Event, Place, no-turn, turn-of, showing-of, placed, history, played, messages, present, owes-after, undone-in, undone, place-of}
+use Rattle.rules.specs.Histories.{Event, no-turn, placed, history, played, messages, present, owes-after, undone-in, place-of}
 use Rattle.rules.specs.Laws.{Well-formed, Apart, Lawful, Runs-are-lawful}
 use Rattle.rules.proofs.Members.{in-push, apart-push}
 use Rattle.rules.proofs.Marked.{none-marked}
 use Rattle.rules.proofs.Accepts.{When}
-use Rattle.rules.proofs.Preserved.{Fit, Sane, all-fit, known-zero}
+use Rattle.rules.proofs.Preserved.{Fit, all-fit, known-zero}
 use Rattle.rules.proofs.Sound.{Good, Calm, Sound, Sound-at}
 use Rattle.rules.proofs.Agrees.{sound-good, agreement}
 use Rattle.rules.proofs.Past.{Past, past, played-sound, played-place}

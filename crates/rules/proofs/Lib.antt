@@ -8,4 +8,3 @@ pub mod Complete
 pub mod Agrees
 pub mod Past
 pub mod Lawfulness
-pub mod Played

@@ -1,14 +1,14 @@
 -- The marks of a thread and the messages that they mark. Assumes nothing.
 use mathlib.Core.Path.{_≡_, refl, sym, ap, _∙_, subst}
 use mathlib.Core.List.{List, [], _∷_, _++_}
-use mathlib.Core.Logic.{_⊎_, inl, inr}
-use mathlib.Core.Bool.{Bool, true, false, cond, not, _&&_, _||_}
+use mathlib.Core.Logic.{inl, inr}
+use mathlib.Core.Bool.{Bool, true, false, not, _&&_}
 use Prim.Native.Nat.{ℕ, zero, suc, _+_, _≤_, _<_}
 use native.Mathlib.Omega.{arith}
 use lib.Dec.{eqb}
 use lib.ListN.{length, getD, set, length-set}
-use Rattle.std.proofs.shelf.Lists.{getD-set-same, getD-set-other, length-append, length-push}
-use Rattle.std.proofs.shelf.Tests.{and-parts, and-from, or-parts, or-from, both-ways, eqb-true, eq-eqb, ne-eqb, cases-bool, cases-eq, cond-true, cond-false, true≢false}
+use Rattle.std.proofs.shelf.Lists.{getD-set-other, length-append, length-push}
+use Rattle.std.proofs.shelf.Tests.{and-parts, and-from, or-parts, or-from, both-ways, eq-eqb, ne-eqb, cases-bool, cases-eq, cond-true, cond-false, true≢false}
 use Rattle.std.specs.declared.option.Option.{Option}
 use Rattle.std.specs.declared.option.Option.the-variants.{Some, None}
 use Rattle.stores.specs.declared.message.Message.{Message}
@@ -25,7 +25,7 @@ use Rattle.rules.proofs.Members.{in-right}
 abbrev pub Bare : List Bool → List Message → Type 0
 Bare bs ms = (j : ℕ) → length ms ≤ j → getD bs j false ≡ false
 
-abbrev rest-bare : (b : Bool) (bs : List Bool) (m : Message) (ms : List Message) → Bare (b ∷ bs) (m ∷ ms) → Bare bs ms
+rest-bare : (b : Bool) (bs : List Bool) (m : Message) (ms : List Message) → Bare (b ∷ bs) (m ∷ ms) → Bare bs ms
 rest-bare b bs m ms h j l = h (suc j) (omega arith)
 
 pub marked-nil : (bs : List Bool) → marked bs [] ≡ []
@@ -164,8 +164,8 @@ owes-at-complete x (true ∷ bs) (n ∷ ns) h =
     or-from (eqb (n .location) x) (owes-at x bs ns) (ne-eqb (n .location) x (h n (inl refl))) (owes-at-complete x bs ns (λ m i. h m (inr i)))
 owes-at-complete x (false ∷ bs) (n ∷ ns) h = owes-at-complete x bs ns h
 
-none-some : (k : ℕ) → _≡_ {A = Option ℕ} None (Some k) → ⊥
-none-some k e = let z : _≡_ {A = ℕ} 0 1 = cc in omega arith
+pub none-some : {Y : Type 0} (y : Y) → _≡_ {A = Option Y} None (Some y) → ⊥
+none-some y e = let z : _≡_ {A = ℕ} 0 1 = cc in omega arith
 
 -- the promise that is found
 abbrev Owed-at : ℕ → ℕ → List Bool → List Message → ℕ → Type 0

@@ -2,13 +2,12 @@
 use mathlib.Core.Path.{_≡_, refl, sym, ap, _∙_, subst}
 use mathlib.Core.List.{List, [], _∷_, _++_, map}
 use mathlib.Core.Logic.{_⊎_, inl, inr}
-use Prim.Native.Nat.{ℕ, _≤_, _<_}
+use Prim.Native.Nat.{_<_}
 use native.Mathlib.Omega.{arith}
 use Rattle.stores.specs.declared.view.View.{View}
 use Rattle.stores.specs.declared.message.Message.{Message}
-use Rattle.stores.specs.Views.{at}
 use Rattle.stores.specs.StoreLaws.{In, Overlaps, Free}
-use Rattle.rules.specs.Laws.{Well-formed, Apart-from, Apart, Known}
+use Rattle.rules.specs.Laws.{Well-formed, Apart, Known}
 
 pub in-left : (m : Message) (xs ys : List Message) → In m xs → In m (xs ++ ys)
 in-left m [] ys h = absurd h

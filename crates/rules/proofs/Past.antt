@@ -2,13 +2,12 @@
 use mathlib.Core.Path.{_≡_, refl, sym, ap, _∙_, subst}
 use mathlib.Core.List.{List, [], _∷_, _++_, append-nil, append-assoc}
 use mathlib.Core.Logic.{_⊎_, inl, inr}
-use mathlib.Core.Bool.{Bool, true, false, cond, _&&_}
-use Prim.Native.Nat.{ℕ, _+_, _≤_, _<_}
+use mathlib.Core.Bool.{Bool, cond, _&&_}
+use Prim.Native.Nat.{ℕ, _≤_, _<_}
 use native.Mathlib.Omega.{arith}
 use lib.Dec.{eqb, ltb}
-use lib.ListN.{length, getD, set, length-set}
-use Rattle.std.proofs.shelf.Lists.{getD-set-same}
-use Rattle.std.proofs.shelf.Tests.{and-parts, eqb-true, eq-eqb, ne-eqb, ltb-true, cond-true, cond-false, cond-both, cases-eq}
+use lib.ListN.{length, getD, length-set}
+use Rattle.std.proofs.shelf.Tests.{and-parts, eqb-true, eq-eqb, ne-eqb, ltb-true, cond-true, cond-false, cond-both}
 use Rattle.std.specs.declared.option.Option.{Option}
 use Rattle.std.specs.declared.option.Option.the-variants.{Some, None}
 use Rattle.lines.specs.declared.trace.Line.{Line}
@@ -19,23 +18,22 @@ use Rattle.languages.specs.declared.action.Taking.{Taking}
 use Rattle.stores.specs.declared.view.View.{View}
 use Rattle.stores.specs.declared.message.Message.{Message}
 use Rattle.stores.specs.Views.{at, single, join}
-use Rattle.stores.specs.Memory.{find}
-use Rattle.stores.specs.StoreLaws.{In, Free}
+use Rattle.stores.specs.StoreLaws.{In}
 use Rattle.stores.proofs.ViewLaws.{at-join, at-single}
 use Rattle.rules.specs.declared.fault.StepFault.the-variants.{Range, Moment, StillOwing}
-use Rattle.rules.specs.Models.{Views, Thread, Part, Saved, Phase, between, turn, showing, Run, nobody, thread-at, part-at, with-part, in-phase}
-use Rattle.rules.specs.Threads.{next-of, marked, none-owed, read-cur, write-views}
-use Rattle.rules.specs.Rules.{Tried, went, refused, message-at, written, updated-message, update-views, promised-message, promise-result, act-result, lifted, act-in, promise-in, begin-in, closing-line, saved, show-in, put-back, end-in, line-result}
+use Rattle.rules.specs.Models.{Thread, Part, Phase, between, turn, showing, Run, nobody, thread-at, part-at, with-part, in-phase}
+use Rattle.rules.specs.Threads.{marked, none-owed, read-cur, write-views}
+use Rattle.rules.specs.Rules.{Tried, went, refused, written, updated-message, update-views, promised-message, promise-result, act-result, lifted, act-in, promise-in, begin-in, closing-line, saved, show-in, put-back, end-in, line-result}
 use Rattle.rules.specs.Alone.{Lone, lone, Alone, silent, acquire-fence, release-fence, both-fence, sequential-fence, print, read, write, update, keep}
 use Rattle.rules.specs.Steps.{lone-at}
-use Rattle.rules.specs.Histories.{Event, was-read, was-written, was-updated, was-promised, was-kept, read-event, write-event, replaced, update-of, update-event, keep-event, event, Place, no-turn, turn-of, showing-of, shows-at, moves, moved, place-of, event-in, counted, settled, played, placed, history, messages, without, owes-after, if-this, times, updates, undone-in, undone}
+use Rattle.rules.specs.Histories.{Event, was-read, was-written, was-updated, was-promised, was-kept, read-event, write-event, replaced, update-of, update-event, keep-event, event, Place, shows-at, moves, moved, place-of, event-in, counted, settled, played, placed, history, messages, without, owes-after, if-this, times, updates, undone-in, undone}
 use Rattle.rules.specs.Laws.{Is-in, Distinct, Rising-from, Apart}
 use Rattle.rules.proofs.Members.{in-left, in-last}
 use Rattle.rules.proofs.Marked.{marked-more, marked-promise, apart-marked, without-one}
 use Rattle.rules.proofs.Accepts.{When, Acted}
-use Rattle.rules.proofs.Preserved.{Holds, write-within, reads-within, update-within}
+use Rattle.rules.proofs.Preserved.{write-within, reads-within, update-within}
 use Rattle.rules.proofs.Complete.{find-complete}
-use Rattle.rules.proofs.Sound.{Good, holds-at, at-set, Changed, acted-changed, Shows, Sound-at, Sound, same-back, acting, Promised, promising, promised-changed, shown-back, line-sound}
+use Rattle.rules.proofs.Sound.{Good, at-set, Changed, acted-changed, Sound-at, Sound, same-back, acting, when-lifted, Promised, promising, promised-changed, shown-back, line-sound}
 
 -- times that begin at or above lo, never fall, and end at or below hi
 abbrev Rises : ℕ → List ℕ → ℕ → Type 0
@@ -279,20 +277,16 @@ promise-told r i x v f t p g a =
       one = tt;
     })
 
-when-part : (r : Run) (i : ℕ) (F : Part → Type 0) (B : Run → Type 0) (t : Tried Part) → When F t → ((p : Part) → F p → B (with-part r i p)) → When B (lifted r i t)
-when-part r i F B (went p) h go = go p h
-when-part r i F B (refused e) h go = tt
-
 act-counted : (line : Line) (r : Run) (ph : Phase) → r .phase ≡ ph → Sound-at r ph → When (λ r′. Counted r r′ (event-in (place-of ph) line r)) (act-in r line ph)
 act-counted line r between e h = tt
 act-counted line r (turn i) e h =
-    when-part r i (λ p. Acted (r .locations) i None line (part-at r i) p) (λ r′. Counted r r′ (event i line r)) (act-result (r .locations) i None line (part-at r i)) (acting r i None line (h .1))
+    when-lifted r i (λ p. Acted (r .locations) i None line (part-at r i) p) (λ r′. Counted r r′ (event i line r)) (act-result (r .locations) i None line (part-at r i)) (acting r i None line (h .1))
     (λ p a. let t = told i r (h .1) (a .step) in
     subst (Counted r (with-part r i p)) (sym (t .1)) (part-past r i p (t .0) e (h .0) (h .1) (acted-changed r i None line p (h .1) a) (t .2)))
 act-counted line r (showing i s cl) e h =
     cond-both (none-owed (thread-at r i .owed)) (refused Moment) (lifted r i (act-result (r .locations) i (Some cl) line (part-at r i))) (When (λ r′. Counted r r′ []))
     (λ _. tt)
-    (λ _. when-part r i (λ p. Acted (r .locations) i (Some cl) line (part-at r i) p) (λ r′. Counted r r′ []) (act-result (r .locations) i (Some cl) line (part-at r i)) (acting r i (Some cl) line (h .good))
+    (λ _. when-lifted r i (λ p. Acted (r .locations) i (Some cl) line (part-at r i) p) (λ r′. Counted r r′ []) (act-result (r .locations) i (Some cl) line (part-at r i)) (acting r i (Some cl) line (h .good))
     (λ p a.
     let c = acted-changed r i (Some cl) line p (h .good) a in
     let back : undone (with-part r i p) ≡ undone r = ap (undone-in (with-part r i p)) e ∙ same-back r i p s (h .messages) (h .prints) c ∙ sym (ap (undone-in r) e) in
@@ -308,7 +302,7 @@ begin-counted r i (showing j s cl) e = tt
 promise-counted : (r : Run) (x v f t : ℕ) (ph : Phase) → x < r .locations → r .phase ≡ ph → Sound-at r ph → When (λ r′. Counted r r′ (event-in (place-of ph) (G x v f t) r)) (promise-in r x v f t ph)
 promise-counted r x v f t between here e h = tt
 promise-counted r x v f t (turn i) here e h =
-    when-part r i (Promised r i x v f t) (λ r′. Counted r r′ (event i (G x v f t) r)) (promise-result x v f t (part-at r i)) (promising r i x v f t)
+    when-lifted r i (Promised r i x v f t) (λ r′. Counted r r′ (event i (G x v f t) r)) (promise-result x v f t (part-at r i)) (promising r i x v f t)
     (λ p a. part-past r i p (was-promised i (promised-message (thread-at r i .views) x v f t) ∷ []) e (h .0) (h .1) (promised-changed r i x v f t p here (h .1) a) (promise-told r i x v f t p (h .1) a))
 promise-counted r x v f t (showing i s cl) here e h = tt
 

@@ -2,15 +2,14 @@
 use mathlib.Core.Path.{_≡_, refl, sym, ap, _∙_, subst}
 use mathlib.Core.List.{List, [], _∷_, _++_, append-nil}
 use mathlib.Core.Logic.{_⊎_, inl, inr}
-use mathlib.Core.Bool.{Bool, true, false, cond}
-use Prim.Native.Nat.{ℕ, _+_, _≤_, _<_, max}
+use Prim.Native.Nat.{ℕ, _≤_, _<_}
 use native.Mathlib.Omega.{arith}
 use lib.Dec.{ltb}
 use lib.ListN.{length, getD, set, replicate, length-set, length-replicate}
 use Rattle.std.proofs.shelf.Lists.{getD-set-same, getD-set-other, set-past, getD-replicate, getD-past}
-use Rattle.std.proofs.shelf.Tests.{cases-eq, cases-lt, cases-bool, ltb-true, cond-true, cond-false}
+use Rattle.std.proofs.shelf.Tests.{cases-eq, cases-lt, ltb-true, cond-both}
 use Rattle.std.specs.declared.option.Option.{Option}
-use Rattle.std.specs.declared.option.Option.the-variants.{Some, None}
+use Rattle.std.specs.declared.option.Option.the-variants.{Some}
 use Rattle.lines.specs.declared.trace.Line.{Line}
 use Rattle.languages.specs.declared.action.Action.{Action}
 use Rattle.languages.specs.declared.action.Action.the-variants.{Silent, Read, Write, Update, Fence, Print, Ended}
@@ -24,83 +23,68 @@ use Rattle.stores.specs.Views.{at, zero-view, single, join, Below}
 use Rattle.stores.specs.StoreLaws.{In, Free}
 use Rattle.stores.proofs.ViewLaws.{at-join, at-zero, at-single, at-single-other, single-outside, zero-below, below-refl}
 use Rattle.rules.specs.Models.{Views}
-use Rattle.rules.specs.Threads.{within, next-of, reads, rel-at, read-cur, read-views, write-rel, write-views, acquire-views, release-views, both-views, all-views}
-use Rattle.rules.specs.Rules.{written, updated-message, update-views, initial}
+use Rattle.rules.specs.Threads.{within, reads, rel-at, read-cur, read-views, write-rel, write-views, acquire-views, release-views, all-views}
+use Rattle.rules.specs.Rules.{written, updated-message, update-views}
 use Rattle.rules.specs.Alone.{Lone, Alone, silent, acquire-fence, release-fence, both-fence, sequential-fence, print, read, write, update, keep}
 use Rattle.rules.specs.Laws.{Well-formed, Apart, Known, Known-views, Ordered}
+use Rattle.rules.proofs.Marked.{none-some}
 use Rattle.rules.proofs.Members.{in-left, in-right, in-last, in-split, in-push, apart-push, free-off, known-more}
 
--- an action that is there has its location below l
-no-way : {Y : Type 0} → _≡_ {A = ℕ} 0 1 → Y
-no-way z = absurd (omega arith)
+-- an action's location, if it has one, is below l
+abbrev Placed : ℕ → Action → Type 0
+Placed l Silent = Unit {0}
+Placed l (Read x o) = x < l
+Placed l (Write x v o) = x < l
+Placed l (Update x o w) = x < l
+Placed l (Fence o) = Unit {0}
+Placed l (Print v) = Unit {0}
+Placed l Ended = Unit {0}
+
+within-placed : (l : ℕ) (a : Action) → Placed l (within l a)
+within-placed l Silent = tt
+within-placed l (Read x o) = cond-both (ltb x l) (Read x o) Ended (Placed l) (ltb-true x l) (λ _. tt)
+within-placed l (Write x v o) = cond-both (ltb x l) (Write x v o) Ended (Placed l) (ltb-true x l) (λ _. tt)
+within-placed l (Update x o w) = cond-both (ltb x l) (Update x o w) Ended (Placed l) (ltb-true x l) (λ _. tt)
+within-placed l (Fence o) = tt
+within-placed l (Print v) = tt
+within-placed l Ended = tt
 
 pub write-within : (l : ℕ) (a : Action) (x v : ℕ) (o : WriteMode) → within l a ≡ Write x v o → x < l
-write-within l Silent x v o e = no-way (cc)
-write-within l (Read y p) x v o e =
-    elim (cases-bool (ltb y l)) [
-      | inl b ↦ let s : Read y p ≡ Write x v o = sym (cond-true (ltb y l) (Read y p) Ended b) ∙ e in no-way (cc)
-      | inr b ↦ let s = sym (cond-false (ltb y l) (Read y p) Ended b) ∙ e in no-way (cc)
-    ]
-write-within l (Write y w p) x v o e =
-    elim (cases-bool (ltb y l)) [
-      | inl b ↦ let s = sym (cond-true (ltb y l) (Write y w p) Ended b) ∙ e in let q : y ≡ x = cc in let h = ltb-true y l b in omega arith
-      | inr b ↦ let s = sym (cond-false (ltb y l) (Write y w p) Ended b) ∙ e in no-way (cc)
-    ]
-write-within l (Update y p w) x v o e =
-    elim (cases-bool (ltb y l)) [
-      | inl b ↦ let s = sym (cond-true (ltb y l) (Update y p w) Ended b) ∙ e in no-way (cc)
-      | inr b ↦ let s = sym (cond-false (ltb y l) (Update y p w) Ended b) ∙ e in no-way (cc)
-    ]
-write-within l (Fence p) x v o e = no-way (cc)
-write-within l (Print p) x v o e = no-way (cc)
-write-within l Ended x v o e = no-way (cc)
-
-some-first : (y x : ℕ) (p o : ReadMode) → _≡_ {A = Option (ℕ × ReadMode)} (Some (y, p)) (Some (x, o)) → y ≡ x
-some-first y x p o s = let pair : _≡_ {A = ℕ × ReadMode} (y, p) (x, o) = cc in ap (λ (r : ℕ × ReadMode). r .0) pair
-
-pub reads-within : (l : ℕ) (a : Action) (x : ℕ) (o : ReadMode) → reads (within l a) ≡ Some (x, o) → x < l
-reads-within l Silent x o e = no-way (cc)
-reads-within l (Read y p) x o e =
-    elim (cases-bool (ltb y l)) [
-      | inl b ↦ let s : Some (y, p) ≡ Some (x, o) = sym (ap reads (cond-true (ltb y l) (Read y p) Ended b)) ∙ e in let q : y ≡ x = some-first y x p o s in let h = ltb-true y l b in omega arith
-      | inr b ↦ let s : None ≡ Some (x, o) = sym (ap reads (cond-false (ltb y l) (Read y p) Ended b)) ∙ e in no-way (cc)
-    ]
-reads-within l (Write y w p) x o e =
-    elim (cases-bool (ltb y l)) [
-      | inl b ↦ let s : None ≡ Some (x, o) = sym (ap reads (cond-true (ltb y l) (Write y w p) Ended b)) ∙ e in no-way (cc)
-      | inr b ↦ let s : None ≡ Some (x, o) = sym (ap reads (cond-false (ltb y l) (Write y w p) Ended b)) ∙ e in no-way (cc)
-    ]
-reads-within l (Update y p w) x o e =
-    elim (cases-bool (ltb y l)) [
-      | inl b ↦ let s : Some (y, p) ≡ Some (x, o) = sym (ap reads (cond-true (ltb y l) (Update y p w) Ended b)) ∙ e in let q : y ≡ x = some-first y x p o s in let h = ltb-true y l b in omega arith
-      | inr b ↦ let s : None ≡ Some (x, o) = sym (ap reads (cond-false (ltb y l) (Update y p w) Ended b)) ∙ e in no-way (cc)
-    ]
-reads-within l (Fence p) x o e = no-way (cc)
-reads-within l (Print p) x o e = no-way (cc)
-reads-within l Ended x o e = no-way (cc)
+write-within l a x v o e = subst (Placed l) e (within-placed l a)
 
 pub update-within : (l : ℕ) (a : Action) (x : ℕ) (o : ReadMode) (w : WriteMode) → within l a ≡ Update x o w → x < l
-update-within l a x o w e = reads-within l a x o (ap reads e)
+update-within l a x o w e = subst (Placed l) e (within-placed l a)
+
+pub reads-within : (l : ℕ) (a : Action) (x : ℕ) (o : ReadMode) → reads (within l a) ≡ Some (x, o) → x < l
+reads-within l a x o e = go (within l a) (within-placed l a) e
+  where
+    same : (y : ℕ) (p : ReadMode) → y < l → _≡_ {A = Option (ℕ × ReadMode)} (Some (y, p)) (Some (x, o)) → x < l
+    same y p h s =
+        let pair : _≡_ {A = ℕ × ReadMode} (y, p) (x, o) = cc in
+        let q : y ≡ x = ap (λ (r : ℕ × ReadMode). r .0) pair in
+        omega arith
+
+    go : (b : Action) → Placed l b → reads b ≡ Some (x, o) → x < l
+    go Silent h s = absurd (none-some (x, o) s)
+    go (Read y p) h s = same y p h s
+    go (Write y v p) h s = absurd (none-some (x, o) s)
+    go (Update y p w) h s = same y p h s
+    go (Fence p) h s = absurd (none-some (x, o) s)
+    go (Print v) h s = absurd (none-some (x, o) s)
+    go Ended h s = absurd (none-some (x, o) s)
 
 -- views that know only ends of these messages
 pub known-zero : (ms : List Message) → Known ms zero-view
 known-zero ms x = inl (at-zero x)
 
+-- an end that one view has, in another
+same-end : (ms : List Message) (v w : View) (x : ℕ) → Known ms v → at v x ≡ at w x → (at w x ≡ 0) ⊎ ((m : Message) × In m ms × (m .location ≡ x) × (m .to ≡ at w x))
+same-end ms v w x h e = elim (h x) [ inl z ↦ inl (sym e ∙ z) | inr m ↦ inr (m .0, m .1, m .2, m .3 ∙ e) ]
+
 pub known-join : (ms : List Message) (a b : View) → Known ms a → Known ms b → Known ms (join a b)
 known-join ms a b h g x =
     let e = at-join a b x in
-    elim (cases-lt (at a x) (at b x)) [
-      | inl l ↦ right (omega arith) (g x)
-      | inr l ↦ left (omega arith) (h x)
-    ]
-  where
-    right : at b x ≡ at (join a b) x → (at b x ≡ 0) ⊎ ((m : Message) × In m ms × (m .location ≡ x) × (m .to ≡ at b x)) → (at (join a b) x ≡ 0) ⊎ ((m : Message) × In m ms × (m .location ≡ x) × (m .to ≡ at (join a b) x))
-    right e (inl z) = inl (sym e ∙ z)
-    right e (inr m) = inr (m .0, m .1, m .2, m .3 ∙ e)
-
-    left : at a x ≡ at (join a b) x → (at a x ≡ 0) ⊎ ((m : Message) × In m ms × (m .location ≡ x) × (m .to ≡ at a x)) → (at (join a b) x ≡ 0) ⊎ ((m : Message) × In m ms × (m .location ≡ x) × (m .to ≡ at (join a b) x))
-    left e (inl z) = inl (sym e ∙ z)
-    left e (inr m) = inr (m .0, m .1, m .2, m .3 ∙ e)
+    elim (cases-lt (at a x) (at b x)) [ inl l ↦ same-end ms b (join a b) x g (omega arith) | inr l ↦ same-end ms a (join a b) x h (omega arith) ]
 
 pub known-single : (ms : List Message) (m : Message) → In m ms → Known ms (single (m .location) (m .to))
 known-single ms m i y =
@@ -320,12 +304,12 @@ module _ (l : ℕ) (few : l ≤ 8) (closing : Option View) (k : Lone) (S : View)
       let us = read-views o x (m .to) (m .view) (k .views) in
       let vs = write-views w x t us in
       let m′ = updated-message x v (m .to) t (m .view) vs in
-      let read : Fit M us = read-fit M o m (k .views) i (h .sane .known m i) (h .fit) in
-      let fit : Fit (M ++ (m′ ∷ [])) vs = write-fit (M ++ (m′ ∷ [])) w x t us (known-single (M ++ (m′ ∷ [])) m′ (in-last m′ M)) (fit-more M (m′ ∷ []) us read) in
+      let after-read : Fit M us = read-fit M o m (k .views) i (h .sane .known m i) (h .fit) in
+      let fit : Fit (M ++ (m′ ∷ [])) vs = write-fit (M ++ (m′ ∷ [])) w x t us (known-single (M ++ (m′ ∷ [])) m′ (in-last m′ M)) (fit-more M (m′ ∷ []) us after-read) in
       let lt : x < l = update-within l (k .does [] .next) x o w e in
       let own : at (m .view) x ≤ m .to = formed-end m (h .sane .formed m i) in
       let cur : at (us .cur) x ≤ m .to = read-cur-end o x (m .to) (m .view) (k .views .cur) le own in
-      let rel : at (rel-at vs x) x ≡ t = written-end w x t us (omega arith) (read .eight) (read .ordered) (omega arith) in
+      let rel : at (rel-at vs x) x ≡ t = written-end w x t us (omega arith) (after-read .eight) (after-read .ordered) (omega arith) in
       let end : at (join (rel-at vs x) (m .view)) x ≡ t = let a = at-join (rel-at vs x) (m .view) x in omega arith in
       grown k′ m′ refl (omega arith) span end free fit
       (known-join (M ++ (m′ ∷ [])) (rel-at vs x) (m .view) (fit .known .rel x) (known-more M (m′ ∷ []) (m .view) (h .sane .known m i)))

@@ -1,15 +1,14 @@
 -- Steps that write above a closing line can be made later, in every memory that has the messages. Assumes nothing.
 use mathlib.Core.Path.{_≡_, refl, sym, ap, _∙_, subst}
 use mathlib.Core.List.{List, [], _∷_, _++_, map, append-assoc, append-nil}
-use mathlib.Core.Logic.{_⊎_, inl, inr}
-use mathlib.Core.Bool.{Bool, true, false, cond}
+use mathlib.Core.Logic.{inl, inr}
+use mathlib.Core.Bool.{cond}
 use Prim.Native.Nat.{ℕ, zero, suc, _+_, _≤_, _<_, max}
 use native.Mathlib.Omega.{arith}
 use lib.Dec.{leb}
 use lib.ListN.{getD, set, replicate, List·getD-map}
 use Rattle.std.proofs.shelf.Tests.{le-leb, lt-leb, cond-true, cond-false, cases-lt}
 use Rattle.std.proofs.shelf.Lists.{map-push, map-set}
-use Rattle.std.specs.declared.option.Option.{Option}
 use Rattle.std.specs.declared.option.Option.the-variants.{Some, None}
 use Rattle.lines.specs.declared.trace.Line.{Line}
 use Rattle.lines.specs.declared.trace.Line.the-variants.{Next as N, Read as R, Write as W, Update as U, Keep as H}
@@ -22,15 +21,15 @@ use Rattle.stores.specs.declared.view.View.{View}
 use Rattle.stores.specs.declared.message.Message.{Message}
 use Rattle.stores.specs.Views.{at, zero-view, single, greater-ends, join}
 use Rattle.stores.specs.Memory.{greatest-end}
-use Rattle.stores.specs.StoreLaws.{In, Free, Overlaps}
+use Rattle.stores.specs.StoreLaws.{In, Free}
 use Rattle.stores.proofs.StoreLaws.{greatest-end-bound}
 use Rattle.rules.specs.Models.{Views}
 use Rattle.rules.specs.Threads.{rel-at, read-cur, read-views, write-rel, write-views}
-use Rattle.rules.specs.Rules.{written, updated-message, update-views, closing-line}
-use Rattle.rules.specs.Alone.{Lone, Within, went-on, kept, Owes-nothing, Alone, silent, acquire-fence, release-fence, both-fence, sequential-fence, print, read, write, update, keep, Steps, done, then, Can-keep}
-use Rattle.rules.specs.Laws.{Known, Known-views, Well-formed}
+use Rattle.rules.specs.Rules.{written, updated-message, update-views}
+use Rattle.rules.specs.Alone.{Lone, Within, went-on, Owes-nothing, Alone, silent, acquire-fence, release-fence, both-fence, sequential-fence, print, read, write, update, keep, Steps, done, then, Can-keep}
+use Rattle.rules.specs.Laws.{Known, Well-formed}
 use Rattle.rules.proofs.Members.{in-left, in-right, in-split, in-push, in-map, in-map-back}
-use Rattle.rules.proofs.Preserved.{Holds, Sane, Fit}
+use Rattle.rules.proofs.Preserved.{Holds, Sane}
 
 -- the steps of a showing: each while something is owed
 pub data Shown (l : ℕ) (cl : View) (k : Lone) (S : View) (M : List Message) : Lone → View → List Message → Type 0 where

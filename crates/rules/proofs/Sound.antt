@@ -1,11 +1,11 @@
 -- The invariant of a run, which each line keeps. Assumes nothing.
 use mathlib.Core.Path.{_≡_, refl, sym, ap, _∙_, subst}
 use mathlib.Core.List.{List, [], _∷_, _++_}
-use mathlib.Core.Logic.{_⊎_, inl, inr}
-use mathlib.Core.Bool.{Bool, true, false, cond, _&&_}
-use Prim.Native.Nat.{ℕ, zero, suc, _+_, _≤_, _<_}
+use mathlib.Core.Logic.{inl, inr}
+use mathlib.Core.Bool.{true, false}
+use Prim.Native.Nat.{ℕ, zero, suc, _≤_, _<_}
 use native.Mathlib.Omega.{arith}
-use lib.Dec.{ltb, leb}
+use lib.Dec.{ltb}
 use lib.ListN.{length, take, getD, set, length-set, length-append}
 use Rattle.std.proofs.shelf.Tests.{cases-eq, cond-both, ltb-true}
 use Rattle.std.proofs.shelf.Lists.{getD-set-same, getD-set-other, set-set, set-getD, take-all, take-append-le, length-push}
@@ -18,15 +18,15 @@ use Rattle.stores.specs.declared.message.Message.{Message}
 use Rattle.stores.specs.declared.kept.StoreFault.the-variants.{Full}
 use Rattle.stores.specs.Views.{at, single, join}
 use Rattle.stores.specs.Memory.{greatest-end}
-use Rattle.stores.specs.StoreLaws.{In, Free}
+use Rattle.stores.specs.StoreLaws.{Free}
 use Rattle.stores.proofs.StoreLaws.{greatest-end-bound}
 use Rattle.stores.proofs.ViewLaws.{at-join, at-single}
 use Rattle.rules.specs.declared.fault.StepFault.{StepFault}
 use Rattle.rules.specs.declared.fault.StepFault.the-variants.{Range, Moment, TooNew, Store, StillOwing}
-use Rattle.rules.specs.Models.{Views, Thread, Part, Saved, Phase, between, turn, showing, Run, nobody, thread-at, part-at, with-part, in-phase}
-use Rattle.rules.specs.Threads.{rel-at, none-owed, marked}
+use Rattle.rules.specs.Models.{Thread, Part, Saved, Phase, between, turn, showing, Run, nobody, thread-at, part-at, with-part, in-phase}
+use Rattle.rules.specs.Threads.{rel-at, none-owed}
 use Rattle.rules.specs.Rules.{Tried, went, refused, unless, span-refusal, adds, promised-message, owing, promise-result, act-result, lifted, act-in, promise-in, begin-in, closing-line, saved, show-in, put-back, end-in, line-result}
-use Rattle.rules.specs.Alone.{Lone, lone, Within, Owes-nothing, Alone, Steps, done, then, Can-keep}
+use Rattle.rules.specs.Alone.{Lone, lone, Within, Owes-nothing, done, Can-keep}
 use Rattle.rules.specs.Steps.{lone-at, printed, Marks}
 use Rattle.rules.specs.Laws.{Known}
 use Rattle.rules.proofs.Members.{in-left, in-last, known-more}
@@ -196,7 +196,7 @@ show-part r i s cl line p h owing a =
           (more (h .steps) (something (thread-at r i .owed) (r .memory) (h .good .marks i .1) owing) (a .step)));
     }
 
-when-lifted : (r : Run) (i : ℕ) (F : Part → Type 0) (B : Run → Type 0) (t : Tried Part) → When F t → ((p : Part) → F p → B (with-part r i p)) → When B (lifted r i t)
+pub when-lifted : (r : Run) (i : ℕ) (F : Part → Type 0) (B : Run → Type 0) (t : Tried Part) → When F t → ((p : Part) → F p → B (with-part r i p)) → When B (lifted r i t)
 when-lifted r i F B (went p) h go = go p h
 when-lifted r i F B (refused e) h go = tt
 

@@ -1,6 +1,5 @@
 -- The number and the layer of each refusal.
 use Prim.Native.Nat.{ℕ}
-use Rattle.stores.specs.declared.kept.StoreFault.{StoreFault}
 use Rattle.stores.specs.declared.kept.StoreFault.the-variants.{Full}
 use Rattle.rules.specs.declared.fault.StepFault.{StepFault}
 use Rattle.rules.specs.declared.fault.StepFault.the-variants.{Range, Moment, Kind, Owing, NoMessage, TooNew, Value, Span, ClosingLine, Store, LogFull, StillOwing}

@@ -1,6 +1,6 @@
 -- The history of a run: what its accepted lines outside showings did.
 use mathlib.Core.List.{List, [], _∷_, _++_}
-use mathlib.Core.Bool.{Bool, true, false, cond, _&&_}
+use mathlib.Core.Bool.{cond, _&&_}
 use Prim.Native.Nat.{ℕ}
 use lib.Dec.{eqb}
 use Rattle.std.specs.declared.option.Option.{Option}
@@ -15,7 +15,7 @@ use Rattle.languages.specs.declared.action.Taking.{Taking}
 use Rattle.languages.specs.declared.action.Taking.the-variants.{NotTaken, OnlyRead, Replaced}
 use Rattle.stores.specs.declared.message.Message.{Message}
 use Rattle.stores.specs.Memory.{ends-at, find}
-use Rattle.rules.specs.Models.{Views, Thread, Phase, between, turn, showing, Run, thread-at}
+use Rattle.rules.specs.Models.{Thread, Phase, between, turn, showing, Run, thread-at}
 use Rattle.rules.specs.Threads.{next-of, reads, write-views}
 use Rattle.rules.specs.Rules.{Tried, went, refused, message-at, written, updated-message, update-views, promised-message, put-back, line-result, initials}
 

@@ -11,7 +11,7 @@ use Rattle.stores.specs.Views.{at, Below}
 use Rattle.stores.specs.StoreLaws.{In, Overlaps}
 use Rattle.rules.specs.Models.{Views, Run, thread-at}
 use Rattle.rules.specs.Threads.{rel-at}
-use Rattle.rules.specs.Rules.{Tried, went, line-result, made, initial}
+use Rattle.rules.specs.Rules.{went, line-result, made, initial}
 use Rattle.rules.specs.Alone.{Within, Can-keep}
 use Rattle.rules.specs.Steps.{Step, lone-at}
 use Rattle.rules.specs.Histories.{Event, Place, no-turn, placed, history, played, present, owes-after, times, updates, undone, place-of}

@@ -6,3 +6,4 @@ pub mod Steps
 pub mod Rules
 pub mod Histories
 pub mod Laws
+pub mod Examples

@@ -14,7 +14,7 @@ use Rattle.stores.specs.declared.view.View.{View}
 use Rattle.stores.specs.declared.message.Message.{Message}
 use Rattle.stores.specs.Views.{at}
 use Rattle.stores.specs.StoreLaws.{Free}
-use Rattle.rules.specs.Models.{Thread, Part, Saved, Phase, between, turn, showing, Run, thread-at, with-part, in-phase, closing-line, saved, put-back}
+use Rattle.rules.specs.Models.{Thread, Saved, between, turn, showing, Run, thread-at, with-part, in-phase, closing-line, saved, put-back}
 use Rattle.rules.specs.Threads.{next-of, promised-message, owing}
 use Rattle.rules.specs.Alone.{Lone, lone, Owes-nothing, Alone}
 
