@@ -9,7 +9,8 @@ use crate::parts::Owed;
 use crate::parts::ThreadViews;
 use stores::view::View;
 
-#[derive(Drop)]
+// Copied with its language: a run of threads that are `Copy` can be let go in generic code.
+#[derive(Clone, Copy, Drop)]
 pub struct Thread<L> {
     pub(crate) state: L,
     pub(crate) views: ThreadViews,

@@ -1,0 +1,3 @@
+// Runs on the flat store, line by line, with what each must come to.
+#[cfg(test)]
+mod tests;
