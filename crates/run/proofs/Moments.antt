@@ -75,3 +75,8 @@ pub end-showing : (r : Run) (i : ℕ) (s : Saved) (closing : View) (a : Result (
     → Agrees (ending r i) r a r′ → Agrees (end-in r (showing i s closing)) r a r′
 end-showing r i s closing a r′ p h =
     agrees-by r a r′ (ap (λ (u : Run). cond (none-owed (thread-at r i .owed)) (went (in-phase u between)) (refused StillOwing)) (sym (ap (undone-in r) p))) h
+
+-- a thread's line in a known phase
+pub act-at : (line : Line) (r : Run) (ph : Phase) (a : Result (Unit {0}) StepFault) (r′ : Run) → r .phase ≡ ph → Agrees (act-in r line ph) r a r′
+    → Agrees (act-in r line (r .phase)) r a r′
+act-at line r ph a r′ p h = agrees-by r a r′ (ap (act-in r line) p) h
