@@ -1,9 +1,8 @@
 -- Lines in range, and the moments of lines.
 use mathlib.Core.Path.{_≡_, refl, sym, ap, _∙_, subst}
 use mathlib.Core.List.{List, map}
-use mathlib.Core.Bool.{Bool, true, false, cond}
+use mathlib.Core.Bool.{true, cond}
 use Prim.Native.Nat.{ℕ, _≤_, _<_}
-use lib.Dec.{ltb}
 use lib.ListN.{length, take}
 use Rattle.std.proofs.shelf.Lists.{length-map, length-take-le}
 use Rattle.std.proofs.shelf.Tests.{ltb-true}
