@@ -2,7 +2,7 @@
 use mathlib.Core.Path.{_≡_, refl, sym, ap, _∙_, subst}
 use mathlib.Core.List.{List, [], _∷_, map}
 use mathlib.Core.Bool.{Bool, true, false, cond}
-use Prim.Native.Nat.{ℕ, zero, suc, _<_, _≤_}
+use Prim.Native.Nat.{ℕ, zero, suc, _<_}
 use native.Mathlib.Omega.{arith}
 use lib.ListN.{length, getD, set, take}
 use Rattle.std.proofs.shelf.Tests.{cond-true, cond-false}
@@ -15,8 +15,8 @@ use Rattle.languages.specs.declared.language.Language.{Ghosts as Language}
 use Rattle.stores.specs.declared.store.Store.{Ghosts as Store}
 use Rattle.rules.specs.declared.fault.StepFault.{StepFault}
 use Rattle.rules.specs.Models as model
-use Rattle.rules.specs.declared.fault.StepFault.the-variants.{Moment, StillOwing}
-use Rattle.rules.specs.Models.{between, turn, showing, nobody, thread-at, part-at, with-part, in-phase}
+use Rattle.rules.specs.declared.fault.StepFault.the-variants.{StillOwing}
+use Rattle.rules.specs.Models.{between, turn, showing, nobody, part-at, with-part, in-phase}
 use Rattle.rules.specs.Threads.{none-owed}
 use Rattle.rules.specs.Histories.{undone}
 use Rattle.rules.specs.Rules.{Tried, went, refused, Agrees, lifted, show-in, put-back, closing-line}

@@ -1,9 +1,8 @@
 -- Lines in range, and the moments of lines.
 use mathlib.Core.Path.{_≡_, refl, sym, ap, _∙_, subst}
 use mathlib.Core.List.{List, map}
-use mathlib.Core.Bool.{Bool, true, false, cond}
+use mathlib.Core.Bool.{true, cond}
 use Prim.Native.Nat.{ℕ, _≤_, _<_}
-use lib.Dec.{ltb}
 use lib.ListN.{length, take}
 use Rattle.std.proofs.shelf.Lists.{length-map, length-take-le}
 use Rattle.std.proofs.shelf.Tests.{ltb-true}
@@ -15,9 +14,10 @@ use Rattle.rules.specs.declared.fault.StepFault.{StepFault}
 use Rattle.rules.specs.declared.fault.StepFault.the-variants.{Range, StillOwing}
 use Rattle.rules.specs.Models.{Run, Saved, Phase, between, turn, showing, thread-at, in-phase}
 use Rattle.rules.specs.Threads.{none-owed}
-use Rattle.rules.specs.Rules.{Tried, went, refused, Agrees, line-result, act-in, show-in, end-in}
+use Rattle.rules.specs.Rules.{Tried, went, refused, Agrees, line-result, act-in, end-in}
 use Rattle.rules.specs.Histories.{undone, undone-in}
-use Rattle.run.specs.Moments.{in-range, moment-result}
+use Rattle.run.specs.Moments.{in-range, moment-in, moment-result}
+use Rattle.run.proofs.Lifts.{agrees-by}
 
 pub line-by-range : (line : Line) (r : Run) → line-result line r ≡ cond (in-range line r) (moment-result line r) (refused Range)
 line-by-range (T i) r = refl
@@ -51,36 +51,31 @@ turn-in-range line r i e h = ltb-true i (length (r .threads)) (sym (ap (λ (l : 
 pub promise-in-range : (line : Line) (r : Run) (x v f t : ℕ) → line ≡ G x v f t → in-range line r ≡ true → x < r .locations
 promise-in-range line r x v f t e h = ltb-true x (r .locations) (sym (ap (λ (l : Line). in-range l r) e) ∙ h)
 
--- the end of a turn or of a showing
-pub end-turn : (line : Line) (r : Run) (i : ℕ) (a : Result (Unit {0}) StepFault) (r′ : Run) → line ≡ E → r .phase ≡ turn i
-    → Agrees (cond (none-owed (thread-at r i .owed)) (went (in-phase (undone r) between)) (refused StillOwing)) r a r′
-    → Agrees (moment-result line r) r a r′
-end-turn line r i a r′ e p h =
-    subst (λ (l : Line). Agrees (moment-result l r) r a r′) (sym e)
-    (subst (λ (ph : Phase). Agrees (end-in r ph) r a r′) (sym p)
-    (subst (λ (u : Run). Agrees (cond (none-owed (thread-at r i .owed)) (went (in-phase u between)) (refused StillOwing)) r a r′)
-    (ap (undone-in r) p) h))
-
-pub end-showing : (line : Line) (r : Run) (i j : ℕ) (s : Saved) (closing : View) (a : Result (Unit {0}) StepFault) (r′ : Run) → line ≡ E
-    → r .phase ≡ showing j s closing → i ≡ j
-    → Agrees (cond (none-owed (thread-at r i .owed)) (went (in-phase (undone r) between)) (refused StillOwing)) r a r′
-    → Agrees (moment-result line r) r a r′
-end-showing line r i j s closing a r′ e p q h =
-    subst (λ (l : Line). Agrees (moment-result l r) r a r′) (sym e)
-    (subst (λ (ph : Phase). Agrees (end-in r ph) r a r′) (sym p)
-    (subst (λ (u : Run). Agrees (cond (none-owed (thread-at r j .owed)) (went (in-phase u between)) (refused StillOwing)) r a r′)
-    (ap (undone-in r) p)
-    (subst (λ (k : ℕ). Agrees (cond (none-owed (thread-at r k .owed)) (went (in-phase (undone r) between)) (refused StillOwing)) r a r′) q h)))
-
--- X in a turn
-pub show-turn : (line : Line) (r : Run) (i : ℕ) (a : Result (Unit {0}) StepFault) (r′ : Run) → line ≡ X → r .phase ≡ turn i
-    → Agrees (show-in r (turn i)) r a r′ → Agrees (moment-result line r) r a r′
-show-turn line r i a r′ e p h =
-    subst (λ (l : Line). Agrees (moment-result l r) r a r′) (sym e) (subst (λ (ph : Phase). Agrees (show-in r ph) r a r′) (sym p) h)
+-- a known line in a known phase
+pub moment-at : (line known : Line) (r : Run) (ph : Phase) (a : Result (Unit {0}) StepFault) (r′ : Run) → line ≡ known → r .phase ≡ ph
+    → Agrees (moment-in known r ph) r a r′ → Agrees (moment-result line r) r a r′
+moment-at line known r ph a r′ e p h = agrees-by r a r′ (λ i. moment-in (e i) r (p i)) h
 
 -- a line by which a thread acts
-pub act-moment : (line known : Line) (r : Run) (a : Result (Unit {0}) StepFault) (r′ : Run) → line ≡ known → moment-result known r ≡ act-in r known (r .phase)
-    → Agrees (act-in r line (r .phase)) r a r′ → Agrees (moment-result line r) r a r′
+pub act-moment : (line known : Line) (r : Run) (a : Result (Unit {0}) StepFault) (r′ : Run) → line ≡ known
+    → moment-result known r ≡ act-in r known (r .phase) → Agrees (act-in r line (r .phase)) r a r′ → Agrees (moment-result line r) r a r′
 act-moment line known r a r′ e same h =
-    subst (λ (l : Line). Agrees (moment-result l r) r a r′) (sym e)
-    (subst (λ (t : Tried Run). Agrees t r a r′) (sym same) (subst (λ (l : Line). Agrees (act-in r l (r .phase)) r a r′) e h))
+    agrees-by r a r′ (ap (λ (l : Line). moment-result l r) e ∙ same ∙ ap (λ (l : Line). act-in r l (r .phase)) (sym e)) h
+
+-- what the end of a turn or of a showing does, by the phase that it is in
+abbrev pub ending : Run → ℕ → Tried Run
+ending r i = cond (none-owed (thread-at r i .owed)) (went (in-phase (undone r) between)) (refused StillOwing)
+
+pub end-turn : (r : Run) (i : ℕ) (a : Result (Unit {0}) StepFault) (r′ : Run) → r .phase ≡ turn i → Agrees (ending r i) r a r′ → Agrees (end-in r (turn i)) r a r′
+end-turn r i a r′ p h =
+    agrees-by r a r′ (ap (λ (u : Run). cond (none-owed (thread-at r i .owed)) (went (in-phase u between)) (refused StillOwing)) (sym (ap (undone-in r) p))) h
+
+pub end-showing : (r : Run) (i : ℕ) (s : Saved) (closing : View) (a : Result (Unit {0}) StepFault) (r′ : Run) → r .phase ≡ showing i s closing
+    → Agrees (ending r i) r a r′ → Agrees (end-in r (showing i s closing)) r a r′
+end-showing r i s closing a r′ p h =
+    agrees-by r a r′ (ap (λ (u : Run). cond (none-owed (thread-at r i .owed)) (went (in-phase u between)) (refused StillOwing)) (sym (ap (undone-in r) p))) h
+
+-- a thread's line in a known phase
+pub act-at : (line : Line) (r : Run) (ph : Phase) (a : Result (Unit {0}) StepFault) (r′ : Run) → r .phase ≡ ph → Agrees (act-in r line ph) r a r′
+    → Agrees (act-in r line (r .phase)) r a r′
+act-at line r ph a r′ p h = agrees-by r a r′ (ap (act-in r line) p) h

@@ -20,6 +20,7 @@ use rules::fault::StepFault;
 use rules::fault::StepFromStore;
 use stores::message::Message;
 use stores::store::Store;
+use stores::view::View;
 
 // the location and the mode with which an action can read
 fn reads(action: Action) -> Option<(u8, ReadMode)>
@@ -58,6 +59,19 @@ pub(crate) fn read<L: Language, S: Store>(
     thread.views.read(mode, location, end, message.view);
     thread.state.go_on(message.value);
     Ok(())
+}
+
+// a message with the span (from, to]
+pub(crate) fn message(location: u8, from: End, to: End, value: u16, view: View) -> Message
+    ensures { λ r. ⌜ r ≡ record { location = location; from = from; to = to; value = value; view = view } ⌝ }
+{
+    Message {
+        location,
+        from,
+        to,
+        value,
+        view,
+    }
 }
 
 // a release, while the thread owes something at the location
@@ -141,15 +155,7 @@ pub(crate) fn write<L: Language, S: Store>(
     let mut views = thread.views;
     views.write(mode, location, to);
     let view = views.released(location);
-    shared
-        .store
-        .add(Message {
-            location,
-            from,
-            to,
-            value,
-            view,
-        })?;
+    shared.store.add(message(location, from, to, value, view))?;
     thread.views = views;
     thread.state.go_on(0);
     Ok(())
@@ -172,28 +178,20 @@ fn update_from<L: Language, S: Store>(
     if thread.views.seen(location) > from {
         return Err(StepFault::TooNew);
     }
-    let message = message_at(&shared.store, k);
-    let Taking::Replaced { value } = thread.state.takes(message.value) else {
+    let read = message_at(&shared.store, k);
+    let Taking::Replaced { value } = thread.state.takes(read.value) else {
         return Err(StepFault::Value);
     };
     if let Some(fault) = span_refusal(&shared.store, closing, location, from, to) {
         return Err(fault);
     }
     let mut views = thread.views;
-    views.read(modes.0, location, from, message.view);
+    views.read(modes.0, location, from, read.view);
     views.write(modes.1, location, to);
-    let view = views.released(location).join(message.view);
-    shared
-        .store
-        .add(Message {
-            location,
-            from,
-            to,
-            value,
-            view,
-        })?;
+    let view = views.released(location).join(read.view);
+    shared.store.add(message(location, from, to, value, view))?;
     thread.views = views;
-    thread.state.go_on(message.value);
+    thread.state.go_on(read.value);
     Ok(())
 }
 

@@ -2,6 +2,7 @@
 ghost use Prim.Native.Nat.{_≤_, _<_};
 ghost use Rattle.rules.specs.Rules.{Agrees, promise-result, keep-result};
 ghost use Rattle.run.specs.Models.{part-of};
+use crate::accesses::message;
 use crate::accesses::span_refusal;
 use crate::owed::message_at;
 use crate::state::Shared;
@@ -13,7 +14,6 @@ use languages::language::Language;
 use lines::End;
 use rules::fault::StepFault;
 use rules::fault::StepFromStore;
-use stores::message::Message;
 use stores::store::Store;
 use stores::view::View;
 
@@ -40,15 +40,7 @@ pub(crate) fn promise<L: Language, S: Store>(
         .views
         .released(location)
         .join(View::single(location, to));
-    shared
-        .store
-        .add(Message {
-            location,
-            from,
-            to,
-            value,
-            view,
-        })?;
+    shared.store.add(message(location, from, to, value, view))?;
     thread.owed.owe(k);
     Ok(())
 }

@@ -1,6 +1,3 @@
-use mathlib.Core.Path.{_≡_, sym, ap, _∙_}
-use mathlib.Core.List.{List}
-use Prim.Native.Nat.{ℕ}
 use native.Mathlib.Omega.{arith}
 use Rattle.run.proofs.Lines.{closing-is}
 use Rattle.run.proofs.parts.Closing.of.Needs as need

@@ -1,7 +1,7 @@
 use mathlib.Core.Path.{_≡_, sym, ap, _∙_, subst}
 use Rattle.stores.specs.declared.view.View.{View}
 use Rattle.stores.specs.Views.{join, Below}
-use Rattle.run.specs.Orders.{All-below, acquired}
+use Rattle.run.specs.Orders.{acquired}
 use Rattle.run.proofs.ViewOrders.{read-ordered, read-above, all-below-trans}
 use Rattle.run.proofs.parts.ThreadViews.read.Needs as need
 

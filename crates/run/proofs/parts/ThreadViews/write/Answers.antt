@@ -1,12 +1,10 @@
-use mathlib.Core.Path.{_≡_, sym, ap, _∙_, subst}
-use mathlib.Core.List.{List}
+use mathlib.Core.Path.{sym, ap, _∙_, subst}
 use native.Mathlib.Omega.{arith}
-use lib.ListN.{length, getD, set}
+use lib.ListN.{getD, set}
 use Rattle.std.proofs.shelf.Lists.{length-set}
 use Rattle.stores.specs.declared.view.View.{View}
-use Rattle.stores.specs.Views.{zero-view, single, join, Below}
+use Rattle.stores.specs.Views.{zero-view, join, Below}
 use Rattle.stores.proofs.ViewLaws.{join-left}
-use Rattle.rules.specs.Models.{Views}
 use Rattle.rules.specs.Threads.{write-rel}
 use Rattle.run.proofs.ViewOrders.{join-keeps, rel-below, rel-written, all-below-trans, all-below-set}
 use Rattle.run.proofs.parts.ThreadViews.write.Needs as need

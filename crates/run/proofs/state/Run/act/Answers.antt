@@ -1,4 +1,3 @@
-use borrow.Author.Needs.{needs}
 use native.Mathlib.Omega.{arith}
 use Rattle.rules.specs.Rules.{act-result}
 use Rattle.run.specs.Models.{line-of, phase-of}

@@ -1,14 +1,13 @@
 use mathlib.Core.Path.{_≡_, sym, ap, _∙_}
-use mathlib.Core.List.{List, [], _∷_, map}
+use mathlib.Core.List.{[], _∷_, map}
 use mathlib.Core.Bool.{true, false}
 use native.Mathlib.Omega.{arith}
 use lib.Dec.{leb}
-use lib.ListN.{length, take}
+use lib.ListN.{take}
 use Rattle.std.proofs.shelf.Results.{err-from-errBy}
 use Rattle.rules.specs.declared.fault.StepFault.the-variants.{Store}
-use Rattle.rules.specs.Models as model
 use Rattle.rules.specs.Models.{between, fresh}
-use Rattle.rules.specs.Rules.{Tried, went, refused}
+use Rattle.rules.specs.Rules.{went, refused}
 use Rattle.run.specs.Models.{thread-of, tried}
 use Rattle.run.proofs.Makings.{only-full, refused-answer, room-answer, made-full, made-went, four-is}
 use Rattle.run.proofs.state.Run.new.Needs as need

@@ -1,4 +1,4 @@
-use mathlib.Core.Path.{_≡_, refl, sym, _∙_}
+use mathlib.Core.Path.{refl, sym, _∙_}
 use Rattle.std.proofs.shelf.Tests.{cond-true, cond-false}
 use Rattle.run.specs.Models.{run-of}
 use Rattle.run.proofs.Lifts.{agrees-by}
