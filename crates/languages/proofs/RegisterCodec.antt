@@ -1,5 +1,5 @@
 -- Register lines are such a family.
-use mathlib.Core.Path.{_≡_, refl, sym, ap, subst, _∙_}
+use mathlib.Core.Path.{_≡_, refl, ap}
 use mathlib.Core.List.{List, [], _∷_}
 use Prim.Native.Nat.{ℕ, _-_, _<_, _≤_, _^_}
 use native.Mathlib.Omega.{arith}
@@ -13,7 +13,7 @@ use Rattle.languages.specs.declared.registers.RegisterLine.the-variants as lin
 use Rattle.lines.specs.Families.{lookup}
 use Rattle.lines.specs.Spelling.{InRange}
 use Rattle.lines.proofs.Options.{some-same}
-use Rattle.lines.proofs.Familiar.{Codec, gets-all}
+use Rattle.lines.proofs.Familiar.{Codec, gets-all, makes-of}
 use Rattle.lines.proofs.Spelled.{Writable, range-at}
 use Rattle.languages.specs.RegisterLines.{register-letters, register-letter, register-limits, register-make, register-kind, register-numbers, register-lines, RegisterFits}
 use Rattle.languages.proofs.ModeNumbers.{same-read-mode, same-write-mode, same-fence-kind, read-back, write-back, fence-back}
@@ -91,12 +91,6 @@ module _ (l : ℕ) (small : l ≤ 8) where
   register-enough kind.Fence m vs h = rw (getD-take m vs 0 0 (omega arith))
   register-enough kind.Print m vs h = rw (getD-take m vs 0 0 (omega arith))
 
-  register-makes : (k : RegisterKind) (vs : List ℕ) (a : RegisterLine) → InRange (register-limits l k) vs → register-make k vs ≡ a → (register-kind a ≡ k) × (register-numbers a ≡ vs) × RegisterFits l a
-  register-makes k vs a h e =
-      let same-kind : register-kind a ≡ k = ap register-kind (sym e) ∙ register-made-kind k vs in
-      let same-numbers : register-numbers a ≡ vs = ap register-numbers (sym e) ∙ register-made-numbers k vs h in
-      (same-kind, same-numbers, subst (λ j. InRange (register-limits l j) (register-numbers a)) (sym same-kind) (subst (λ us. InRange (register-limits l k) us) (sym same-numbers) h))
-
   pub register-codec : Codec (register-lines l) (RegisterFits l)
   register-codec =
       record {
@@ -104,6 +98,6 @@ module _ (l : ℕ) (small : l ≤ 8) where
         found = register-found;
         right = (refl, (refl, (refl, (refl, (refl, (refl, (refl, (refl, (refl, (refl, tt))))))))));
         writes = λ a fits. (fits, ap Some (register-written a));
-        makes = λ k vs a h e. register-makes k vs a h (some-same e);
+        makes = λ k vs a h e. makes-of (register-limits l) register-make register-kind register-numbers register-made-kind register-made-numbers k vs a h (some-same e);
         enough = λ k m vs h. ap Some (register-enough k m vs h);
       }

@@ -1,5 +1,5 @@
 -- Strip lines are such a family.
-use mathlib.Core.Path.{_≡_, refl, sym, ap, subst, _∙_}
+use mathlib.Core.Path.{_≡_, refl, ap}
 use mathlib.Core.List.{List, [], _∷_}
 use Prim.Native.Nat.{ℕ, _-_, _<_, _≤_, _^_}
 use native.Mathlib.Omega.{arith}
@@ -13,7 +13,7 @@ use Rattle.languages.specs.declared.strips.StripLine.the-variants as line
 use Rattle.lines.specs.Families.{lookup}
 use Rattle.lines.specs.Spelling.{InRange}
 use Rattle.lines.proofs.Options.{some-same}
-use Rattle.lines.proofs.Familiar.{Codec, gets-all}
+use Rattle.lines.proofs.Familiar.{Codec, gets-all, makes-of}
 use Rattle.lines.proofs.Spelled.{Writable, range-at}
 use Rattle.languages.specs.StripLines.{strip-letters, strip-letter, strip-limits, strip-make, strip-kind, strip-numbers, strip-lines, StripFits}
 use Rattle.languages.proofs.ModeNumbers.{same-read-mode, same-write-mode, same-fence-kind, read-back, write-back, fence-back}
@@ -61,12 +61,6 @@ module _ (l : ℕ) (small : l ≤ 8) where
   strip-enough kind.Fence m vs h = rw (getD-take m vs 0 0 (omega arith))
   strip-enough kind.Print m vs h = rw (getD-take m vs 0 0 (omega arith))
 
-  strip-makes : (k : StripKind) (vs : List ℕ) (a : StripLine) → InRange (strip-limits l k) vs → strip-make k vs ≡ a → (strip-kind a ≡ k) × (strip-numbers a ≡ vs) × StripFits l a
-  strip-makes k vs a h e =
-      let same-kind : strip-kind a ≡ k = ap strip-kind (sym e) ∙ strip-made-kind k vs in
-      let same-numbers : strip-numbers a ≡ vs = ap strip-numbers (sym e) ∙ strip-made-numbers k vs h in
-      (same-kind, same-numbers, subst (λ j. InRange (strip-limits l j) (strip-numbers a)) (sym same-kind) (subst (λ us. InRange (strip-limits l k) us) (sym same-numbers) h))
-
   pub strip-codec : Codec (strip-lines l) (StripFits l)
   strip-codec =
       record {
@@ -74,6 +68,6 @@ module _ (l : ℕ) (small : l ≤ 8) where
         found = strip-found;
         right = (refl, (refl, (refl, (refl, (refl, tt)))));
         writes = λ a fits. (fits, ap Some (strip-written a));
-        makes = λ k vs a h e. strip-makes k vs a h (some-same e);
+        makes = λ k vs a h e. makes-of (strip-limits l) strip-make strip-kind strip-numbers strip-made-kind strip-made-numbers k vs a h (some-same e);
         enough = λ k m vs h. ap Some (strip-enough k m vs h);
       }

@@ -20,3 +20,7 @@ drop-min n xs = elim (cases-lt n (length xs)) [
   | inl l ↦ ap (λ k. drop k xs) (min-eq-left (omega arith))
   | inr g ↦ ap (λ k. drop k xs) (min-eq-right g) ∙ drop-all (length xs) xs (omega arith) ∙ sym (drop-all n xs g)
 ]
+
+-- of a list of c elements, the first so many, cut off at c
+pub take-cut : {X : Type 0} (xs : List X) (n k c : ℕ) → length xs ≡ c → k ≡ min n c → take k xs ≡ take n xs
+take-cut xs n k c long e = ap (λ i. take i xs) (e ∙ ap (min n) (sym long)) ∙ take-min n xs

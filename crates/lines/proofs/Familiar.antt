@@ -55,6 +55,13 @@ gets-all [] (v ∷ vs) h = absurd h
 gets-all (m ∷ ms) [] h = absurd h
 gets-all (m ∷ ms) (v ∷ vs) h = ap (λ xs. v ∷ xs) (gets-later 0 (length ms) v vs ∙ gets-all ms vs (h .1))
 
+-- where the numbers always make a line, a line that they make has their kind and them, and is in range
+pub makes-of : {K A : Type 0} (limits : K → List ℕ) (make : K → List ℕ → A) (kind-of : A → K) (numbers : A → List ℕ) → ((k : K) (vs : List ℕ) → kind-of (make k vs) ≡ k) → ((k : K) (vs : List ℕ) → InRange (limits k) vs → numbers (make k vs) ≡ vs) → (k : K) (vs : List ℕ) (a : A) → InRange (limits k) vs → make k vs ≡ a → (kind-of a ≡ k) × (numbers a ≡ vs) × InRange (limits (kind-of a)) (numbers a)
+makes-of limits make kind-of numbers kinds lists k vs a h e =
+    let same-kind : kind-of a ≡ k = ap kind-of (sym e) ∙ kinds k vs in
+    let same-numbers : numbers a ≡ vs = ap numbers (sym e) ∙ lists k vs h in
+    (same-kind, same-numbers, subst (λ j. InRange (limits j) (numbers a)) (sym same-kind) (subst (λ us. InRange (limits k) us) (sym same-numbers) h))
+
 -- what the lines of a family have to show
 pub record Codec {K A : Type 0} (F : Family K A) (Fits : A → Type 0) : Type 0 where
   pub writable : (k : K) → Writable (F .limits k)

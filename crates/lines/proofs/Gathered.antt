@@ -10,7 +10,7 @@ use Rattle.std.specs.declared.option.Option.{Option}
 use Rattle.std.specs.declared.option.Option.the-variants.{Some, None}
 use Rattle.lines.specs.Fields.{field, fields, with-first, and-then}
 use Rattle.lines.specs.Reading.{set-in, Six}
-use Rattle.lines.proofs.Cuts.{take-min}
+use Rattle.lines.proofs.Cuts.{take-cut}
 
 abbrev pub both : Option (List ℕ) → Option (List ℕ) → Option (List ℕ)
 both None b = None
@@ -71,10 +71,7 @@ set-in-six None k v six = tt
 set-in-six (Some vs) k None six = tt
 set-in-six (Some vs) k (Some v) six = length-set vs k v ∙ six
 
-pub same-take : (vs : List ℕ) (n k : ℕ) → length vs ≡ 6 → k ≡ min n 6 → take k vs ≡ take n vs
-same-take vs n k six e = ap (λ i. take i vs) (e ∙ ap (min n) (sym six)) ∙ take-min n vs
-
 -- of at most six numbers, the first so many are those that were read
 pub take-six : (vs : Option (List ℕ)) (n k : ℕ) → Six vs → k ≡ min n 6 → mapped (take k) vs ≡ mapped (take n) vs
 take-six None n k six e = refl
-take-six (Some vs) n k six e = ap Some (same-take vs n k six e)
+take-six (Some vs) n k six e = ap Some (take-cut vs n k 6 six e)

@@ -1,5 +1,5 @@
 -- Trace lines are such a family.
-use mathlib.Core.Path.{_≡_, refl, sym, ap, subst, _∙_}
+use mathlib.Core.Path.{_≡_, refl, ap}
 use mathlib.Core.List.{List, [], _∷_}
 use Prim.Native.Nat.{ℕ, _-_, _<_, _≤_, _^_}
 use native.Mathlib.Omega.{arith}
@@ -14,7 +14,7 @@ use Rattle.lines.specs.Families.{lookup}
 use Rattle.lines.specs.Spelling.{InRange}
 use Rattle.lines.specs.TraceLines.{trace-letters, trace-letter, trace-limits, trace-make, trace-kind, trace-numbers, trace-lines, TraceFits}
 use Rattle.lines.proofs.Options.{some-same}
-use Rattle.lines.proofs.Familiar.{Codec, gets-all}
+use Rattle.lines.proofs.Familiar.{Codec, gets-all, makes-of}
 use Rattle.lines.proofs.Spelled.{Writable}
 
 module _ (n l : ℕ) (few : n ≤ 4) (small : l ≤ 8) where
@@ -84,12 +84,6 @@ module _ (n l : ℕ) (few : n ≤ 4) (small : l ≤ 8) where
   trace-made-numbers kind.Show vs h = gets-all (trace-limits n l kind.Show) vs h
   trace-made-numbers kind.EndTurn vs h = gets-all (trace-limits n l kind.EndTurn) vs h
 
-  trace-makes : (k : Kind) (vs : List ℕ) (a : Line) → InRange (trace-limits n l k) vs → trace-make k vs ≡ a → (trace-kind a ≡ k) × (trace-numbers a ≡ vs) × TraceFits n l a
-  trace-makes k vs a h e =
-      let same-kind : trace-kind a ≡ k = ap trace-kind (sym e) ∙ trace-made-kind k vs in
-      let same-numbers : trace-numbers a ≡ vs = ap trace-numbers (sym e) ∙ trace-made-numbers k vs h in
-      (same-kind, same-numbers, subst (λ j. InRange (trace-limits n l j) (trace-numbers a)) (sym same-kind) (subst (λ us. InRange (trace-limits n l k) us) (sym same-numbers) h))
-
   pub trace-codec : Codec (trace-lines n l) (TraceFits n l)
   trace-codec =
       record {
@@ -97,6 +91,6 @@ module _ (n l : ℕ) (few : n ≤ 4) (small : l ≤ 8) where
         found = trace-found;
         right = (refl, (refl, (refl, (refl, (refl, (refl, (refl, (refl, (refl, tt)))))))));
         writes = λ a fits. (fits, ap Some (trace-written a));
-        makes = λ k vs a h e. trace-makes k vs a h (some-same e);
+        makes = λ k vs a h e. makes-of (trace-limits n l) trace-make trace-kind trace-numbers trace-made-kind trace-made-numbers k vs a h (some-same e);
         enough = λ k m vs h. ap Some (trace-enough k m vs h);
       }

@@ -6,18 +6,12 @@ use native.Mathlib.Omega.{arith}
 use lib.ListN.{length, take, set, length-append}
 use Rattle.std.proofs.shelf.Lists.{length-set, length-take}
 use Rattle.lines.specs.Spelling.{spelled}
-use Rattle.lines.proofs.Cuts.{take-min}
+use Rattle.lines.proofs.Cuts.{take-cut}
 use Rattle.judge.specs.Reports.{programs-text}
 use Rattle.judge.specs.Writing.{over}
 use Rattle.judge.proofs.Lengths.{fields-short}
 use Rattle.judge.proofs.Overs.{over-cons, over-then, length-over}
 use Rattle.judge.proofs.report.put_accepted.Needs as need
-
--- the programs that are written are those of the threads
-same-programs : (ks : List ℕ) (n m : ℕ) → length ks ≡ 4 → m ≡ min n 4 → take (m - 0) ks ≡ take n ks
-same-programs ks n m four e =
-    let none : m - 0 ≡ m = omega arith in
-    ap (λ k. take k ks) (none ∙ e ∙ ap (min n) (sym four)) ∙ take-min n ks
 
 pub put-line-next-requires : need.put-line-next-requires
 put-line-next-requires c κs =
@@ -42,7 +36,7 @@ returns c =
     let ks = c .args .form .programs in
     let us = programs-text 0 (take (c .args .form .threads) ks) in
     let short = fields-short (c .args .form .trace ∷ []) (omega arith, tt) in
-    let same = same-programs ks (c .args .form .threads) (c .min-threads .result) (omega arith) (c .min-threads .ensures) in
+    let same = take-cut ks (c .args .form .threads) (c .min-threads .result - 0) 4 (omega arith) (omega (arith, c .min-threads .ensures)) in
     let shorts : length us ≤ 176 = rw (sym same) (c .put-programs .ensures .short) in
     let l = length-append (79 ∷ t) us in
     let done : c .put-line-next .last .out ≡ over out 0 (79 ∷ t) = c .put-line-next .ensures .after ∙ over-cons out 0 79 t (omega arith) in
