@@ -7,14 +7,14 @@ use Rattle.run.proofs.making.fill.Goals as goal
 
 pub returns-in_err-add : goal.returns-in_err-add
 returns-in_err-add g c =
-    let p = err_from_is_err_and c.from-residual.result c.from-residual.ensures.1 in
+    let p = err_from_is_err_and c.from_residual.result c.from_residual.ensures.1 in
     let cap = c.loop-x.invariant.1 ∙ c.keep.ensures.same in
     let full : leb c.args.locations (g.S.Store.capacity c.args.store.now) ≡ false =
     ap (leb c.args.locations) (sym cap) ∙ fill_full (g.S.Store.capacity c.loop-x.store) c.loop-x.x (g.S.Store.held c.loop-x.store) c.add.result c.loop-x.invariant.0 c.add.ensures.value c.args.locations _ c.loop-x-test.true c.in_err-add.was in
     let err = p.1 ∙ ap Err (only_full p.0) in
     record {
       value = err ∙ sym (cond-false _ _ _ full);
-      after = λ ok. absurd (not_both c.from-residual.result p.0 p.1 ok);
+      after = λ ok. absurd (not_both c.from_residual.result p.0 p.1 ok);
       same = c.add.ensures.same ∙ cap;
     }
 

@@ -11,11 +11,11 @@ use Rattle.run.proofs.play.play.Goals as goal
 
 pub returns-in_err-run : goal.returns-in_err-run
 returns-in_err-run g c =
-    let p = err_from_is_err_and c.from-residual.result c.from-residual.ensures.1 in
+    let p = err_from_is_err_and c.from_residual.result c.from_residual.ensures.1 in
     let lines = c.args.lines.now in
     let first = made (map g.L.Language.behaves c.args.threads) c.args.n c.args.locations (g.S.Store.capacity c.args.store) in
     let none : refused c.in_err-run.field-0.0 ≡ first = sym (ap (tried g.L.Language g.S.Store) c.in_err-run.was) ∙ c.new.ensures in
-    let ends : tried g.L.Language g.S.Store c.from-residual.result ≡ plays first lines =
+    let ends : tried g.L.Language g.S.Store c.from_residual.result ≡ plays first lines =
     ap (tried g.L.Language g.S.Store) p.1 ∙ ap refused p.2 ∙ ap (λ (t : Tried Run). plays t lines) none in
     record { ends = ends; law = obeys (map g.L.Language.behaves c.args.threads) c.args.n c.args.locations (g.S.Store.capacity c.args.store) lines _ (g.met.S.Store.small c.args.store) ends }
 

@@ -9,10 +9,10 @@ pub returns-in_err-count : goal.returns-in_err-count
 returns-in_err-count g c =
     let m = run_of g.L.Language g.S.Store in
     let o = followed c.args.scope.threads c.args.scope.locations (m c.args.run.now) c.args.section.now in
-    let p = err_from_is_err_and c.from-residual.result c.from-residual.ensures.1 in
+    let p = err_from_is_err_and c.from_residual.result c.from_residual.ensures.1 in
     record {
-      value = stops o (m c.take_lines.new.run) c.in_err-count.field-0.0 c.from-residual.result c.in_err-count.ensures.value (p.1 ∙ ap Err p.2);
-      few = MatchResult-from_err c.from-residual.result _ _ c.from-residual.ensures.0 (λ _. tt);
+      value = stops o (m c.take_lines.new.run) c.in_err-count.field-0.0 c.from_residual.result c.in_err-count.ensures.value (p.1 ∙ ap Err p.2);
+      few = MatchResult-from_err c.from_residual.result _ _ c.from_residual.ensures.0 (λ _. tt);
     }
 
 pub returns-then-not-is_between : goal.returns-then-not-is_between

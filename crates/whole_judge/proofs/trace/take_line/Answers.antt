@@ -11,8 +11,8 @@ use Rattle.whole_judge.proofs.trace.take_line.Goals as goal
 pub returns-in_err-line : goal.returns-in_err-line
 returns-in_err-line g c =
     let o = reads (trace_lines c.args.scope.threads c.args.scope.locations) c.args.reader.now.rest.now in
-    let p = err_from_is_err_and c.from-residual.result c.from-residual.ensures.1 in
-    not_read o c.in_err-line.field-0.0 (run_of g.L.Language g.S.Store c.args.run.now) _ _ c.from-residual.result
+    let p = err_from_is_err_and c.from_residual.result c.from_residual.ensures.1 in
+    not_read o c.in_err-line.field-0.0 (run_of g.L.Language g.S.Store c.args.run.now) _ _ c.from_residual.result
     (was_refused o c.in_err-line.field-0.0 c.in_err-line.ensures.value) (p.1 ∙ ap Err p.2)
 
 pub returns-in_err-step : goal.returns-in_err-step
@@ -20,10 +20,10 @@ returns-in_err-step g c =
     let bs = c.args.reader.now.rest.now in
     let o = reads (trace_lines c.args.scope.threads c.args.scope.locations) bs in
     let rest = c.read.new.reader.rest.now in
-    let p = err_from_is_err_and c.from-residual-in_err-step.result c.from-residual-in_err-step.ensures.1 in
+    let p = err_from_is_err_and c.from_residual-in_err-step.result c.from_residual-in_err-step.ensures.1 in
     not_accepted o c.in_ok-line.line rest (run_of g.L.Language g.S.Store c.args.run.now)
     (was_read o c.in_ok-line.line bs rest c.in_ok-line.ensures.value c.in_ok-line.ensures.left)
-    c.step.result (run_of g.L.Language g.S.Store c.step.new.self) c.from-residual-in_err-step.result c.in_err-step.field-0.0
+    c.step.result (run_of g.L.Language g.S.Store c.step.new.self) c.from_residual-in_err-step.result c.in_err-step.field-0.0
     c.step.ensures c.in_err-step.was (p.1 ∙ ap Err p.2)
 
 pub returns : goal.returns

@@ -28,7 +28,7 @@ returns-in_err-field c =
     let same : ms ≡ listed c.args.limits = take_cut c.args.limits.most c.args.limits.count (c.min-count.result - 0) 6 six (omega (arith, c.min-count.ensures)) in
     let none = read_none (field (get_or ms c.loop-k.k 0) c.loop-k.self.rest.now) c.field.new.self.rest.now c.in_err-field.ensures in
     let stop = fields_stop ms c.loop-k.k c.loop-k-test.true (option_map (take c.loop-k.k) c.loop-k.numbers) c.loop-k.self.rest.now none in
-    rw (ap (λ xs. fields xs c.args.self.now.rest.now) (sym same) ∙ sym c.loop-k.invariant.1 ∙ stop) c.from-residual.ensures
+    rw (ap (λ xs. fields xs c.args.self.now.rest.now) (sym same) ∙ sym c.loop-k.invariant.1 ∙ stop) c.from_residual.ensures
 
 pub returns : goal.returns
 returns c =

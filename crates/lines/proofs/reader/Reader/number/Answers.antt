@@ -2,7 +2,7 @@ use Rattle.std.proofs.Common.{◌≡◌, ◌+◌, ◌<◌, ◌≤◌, false, ◌
 use Rattle.lines.specs.Fields.{digit, digits, plain_by}
 use Rattle.lines.proofs.Numbers.{read_on, read_on_more, digits_more, digits_end, number_found, number_none}
 use Rattle.lines.proofs.reader.Reader.number.Goals as goal
-use Rattle.lines.proofs.reader.Reader.number.Goals.{else-loop-n-test, then-loop-n-test+then-not-is-digit, then-n-eq0-via-then-n-eq0, then-n-eq0-via-else-n-eq0+then-not-is-plain}
+use Rattle.lines.proofs.reader.Reader.number.Goals.{else-loop-n-test, then-loop-n-test+then-not-is_digit, then-n-eq0-via-then-n-eq0, then-n-eq0-via-else-n-eq0+then-not-is_plain}
 
 pub loop-n-preserved : goal.loop-n-preserved
 loop-n-preserved c =
@@ -14,16 +14,16 @@ loop-n-preserved c =
 pub returns-then-n-eq0 : goal.returns-then-n-eq0
 returns-then-n-eq0 c =
     let bs = c.args.self.now.rest.now in
-    let over : (length bs ≤ c.loop-n.n) ⊎ ((c.loop-n.n < length bs) × (digit (get_or bs c.loop-n.n 0) ≡ false)) = elim c.loop-n-test.branch [ else-loop-n-test w ↦ inl w.loop-n-test.false | then-loop-n-test+then-not-is-digit w ↦ inr (w.loop-n-test.true, sym w.is_digit.ensures ∙ w.if-not-is_digit.true) ] in
+    let over : (length bs ≤ c.loop-n.n) ⊎ ((c.loop-n.n < length bs) × (digit (get_or bs c.loop-n.n 0) ≡ false)) = elim c.loop-n-test.branch [ else-loop-n-test w ↦ inl w.loop-n-test.false | then-loop-n-test+then-not-is_digit w ↦ inr (w.loop-n-test.true, sym w.is_digit.ensures ∙ w.if-not-is_digit.true) ] in
     let e = digits_end c.args.most c.loop-n.number bs c.loop-n.n over in
-    let none : (c.loop-n.n ≡ 0) ⊎ ((0 < c.loop-n.n) × (plain_by c.loop-n.n (get_or bs 0 0) ≡ false)) = elim c.then-n-eq0.branch [ then-n-eq0-via-then-n-eq0 w ↦ inl w.if-n-eq0.true | then-n-eq0-via-else-n-eq0+then-not-is-plain w ↦ inr (omega (arith, w.if-n-eq0.false), sym w.is_plain.ensures ∙ w.if-not-is_plain.true) ] in
+    let none : (c.loop-n.n ≡ 0) ⊎ ((0 < c.loop-n.n) × (plain_by c.loop-n.n (get_or bs 0 0) ≡ false)) = elim c.then-n-eq0.branch [ then-n-eq0-via-then-n-eq0 w ↦ inl w.if-n-eq0.true | then-n-eq0-via-else-n-eq0+then-not-is_plain w ↦ inr (omega (arith, w.if-n-eq0.false), sym w.is_plain.ensures ∙ w.if-not-is_plain.true) ] in
     let is = number_none c.args.most bs c.loop-n.n (omega (arith, e.1, c.loop-n.invariant.2)) none in
     rw is refl
 
 pub returns : goal.returns
 returns c =
     let bs = c.args.self.now.rest.now in
-    let over : (length bs ≤ c.loop-n.n) ⊎ ((c.loop-n.n < length bs) × (digit (get_or bs c.loop-n.n 0) ≡ false)) = elim c.loop-n-test.branch [ else-loop-n-test w ↦ inl w.loop-n-test.false | then-loop-n-test+then-not-is-digit w ↦ inr (w.loop-n-test.true, sym w.is_digit.ensures ∙ w.if-not-is_digit.true) ] in
+    let over : (length bs ≤ c.loop-n.n) ⊎ ((c.loop-n.n < length bs) × (digit (get_or bs c.loop-n.n 0) ≡ false)) = elim c.loop-n-test.branch [ else-loop-n-test w ↦ inl w.loop-n-test.false | then-loop-n-test+then-not-is_digit w ↦ inr (w.loop-n-test.true, sym w.is_digit.ensures ∙ w.if-not-is_digit.true) ] in
     let e = digits_end c.args.most c.loop-n.number bs c.loop-n.n over in
     let is = number_found c.args.most bs c.loop-n.n c.loop-n.number (omega (arith, e.1, c.loop-n.invariant.2)) (omega arith) (sym c.if-not-is_plain.ensures) (sym e.0 ∙ c.loop-n.invariant.1) in
     rw is (refl, c.skip.ensures)

@@ -18,9 +18,9 @@ returns-in_err-numbers c =
     let f = c.in_err-numbers.field-0.0 in
     let chosen : and_then (letter bs) (lookup trace_letters) ≡ Some k = ap (λ o. and_then o (lookup trace_letters)) (sym c.in-Some.ensures) ∙ sym c.in-Some-kind_of.ensures in
     let both = refuses (trace_lines n l) codec bs k c.limits.result chosen c.limits.ensures after c.in_err-numbers.ensures.left f c.in_err-numbers.ensures.numbers in
-    let p = err_from_is_err_and c.from-residual.result c.from-residual.ensures.1 in
+    let p = err_from_is_err_and c.from_residual.result c.from_residual.ensures.1 in
     let value = p.1 ∙ ap Err p.2 ∙ both.0 in
-    record { value = value; left = both.1; spelling = one_spelling (trace_lines n l) codec bs c.from-residual.result after value both.1 }
+    record { value = value; left = both.1; spelling = one_spelling (trace_lines n l) codec bs c.from_residual.result after value both.1 }
 
 pub returns : goal.returns
 returns c =

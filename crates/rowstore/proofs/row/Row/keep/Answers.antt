@@ -15,8 +15,8 @@ loop-i-preserved c =
     elim c.if-from-n.branch [
       | then-from-n w ↦
           let yes : ltb x.number c.args.n ≡ true = lt-ltb _ _ (omega (arith, w.if-from-n.true)) in
-          simp (w.self-is, w.count_is) (FiltersInPlace-more_set c.loop-i.invariant (omega arith) yes is)
+          simp (w.self-is, w.count-is) (FiltersInPlace-more_set c.loop-i.invariant (omega arith) yes is)
       | else-from-n w ↦
           let no : ltb x.number c.args.n ≡ false = le-ltb _ _ (omega (arith, w.if-from-n.false)) in
-          simp (w.self-is, w.count_is) (FiltersInPlace-more_no c.loop-i.invariant (omega arith) no is)
+          simp (w.self-is, w.count-is) (FiltersInPlace-more_no c.loop-i.invariant (omega arith) no is)
     ]

@@ -18,8 +18,10 @@ add-requires-2 c =
       room = row_room ms s.index s.indexed s.whole s.fits less y (omega arith);
     }
 
-abbrev Holds : List Message → Index → Type 0
-Holds ms b = Indexed ms b × (Whole b × (Fits b × Unit {0}))
+record Holds (ms : List Message) (b : Index) : Type 0 where
+  pub indexed : Indexed ms b
+  pub whole : Whole b
+  pub fits : Fits b
 
 pub invariant_of-self-2 : goal.invariant_of-self-2
 invariant_of-self-2 c =
@@ -30,8 +32,10 @@ invariant_of-self-2 c =
     let list : take c.add.new.self.len c.add.new.self.items ≡ ms ++ m ∷ [] = c.add.ensures.after ∙ cond-true _ _ _ (lt-ltb (length ms) 64 less) in
     let index : c.add-2.new.self ≡ with_message s.index m (length ms) = c.add-2.ensures.after ∙ ap (with_message s.index m) c.len-number.ensures in
     let nine = c.add-2.ensures.rows in
-    let holds : Holds (ms ++ m ∷ []) (with_message s.index m (length ms)) = (
-      indexed_after ms s.index s.indexed s.whole s.fits m less nine,
-      (whole_after ms s.index s.indexed s.whole s.fits m less nine, (fits_after ms s.index s.indexed s.whole s.fits m less nine, tt)),
-    ) in
-    subst (λ (l : List Message). Holds l c.add-2.new.self) (sym list) (subst (Holds (ms ++ m ∷ [])) (sym index) holds)
+    let holds : Holds (ms ++ m ∷ []) (with_message s.index m (length ms)) = record {
+      indexed = indexed_after ms s.index s.indexed s.whole s.fits m less nine;
+      whole = whole_after ms s.index s.indexed s.whole s.fits m less nine;
+      fits = fits_after ms s.index s.indexed s.whole s.fits m less nine;
+    } in
+    let now = subst (λ (l : List Message). Holds l c.add-2.new.self) (sym list) (subst (Holds (ms ++ m ∷ [])) (sym index) holds) in
+    record { indexed = now.indexed; whole = now.whole; fits = now.fits }

@@ -13,7 +13,9 @@ pub invariant_of-self : goal.invariant_of-self
 invariant_of-self c =
     let s = c.args.self.now in
     let ms = take s.arrivals.len s.arrivals.items in
-    let b = c.keep-2.new.self in (
-      subst (λ (l : List Message). Indexed l b) (sym c.keep.ensures.after) (indexed_kept ms s.index s.indexed s.whole s.fits c.args.n b c.keep-2.ensures),
-      (whole_kept ms s.index s.indexed s.whole s.fits c.args.n b c.keep-2.ensures, (fits_kept ms s.index s.indexed s.whole s.fits c.args.n b c.keep-2.ensures, tt)),
-    )
+    let b = c.keep-2.new.self in
+    record {
+      indexed = subst (λ (l : List Message). Indexed l b) (sym c.keep.ensures.after) (indexed_kept ms s.index s.indexed s.whole s.fits c.args.n b c.keep-2.ensures);
+      whole = whole_kept ms s.index s.indexed s.whole s.fits c.args.n b c.keep-2.ensures;
+      fits = fits_kept ms s.index s.indexed s.whole s.fits c.args.n b c.keep-2.ensures;
+    }

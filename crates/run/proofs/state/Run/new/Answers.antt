@@ -9,7 +9,7 @@ use Rattle.run.proofs.state.Run.new.Goals as goal
 
 pub returns-in_err-fill : goal.returns-in_err-fill
 returns-in_err-fill g c =
-    let p = err_from_is_err_and c.from-residual.result c.from-residual.ensures.1 in
+    let p = err_from_is_err_and c.from_residual.result c.from_residual.ensures.1 in
     let full : leb c.args.locations (g.S.Store.capacity c.args.store) ≡ false =
     refused_answer _ _ (sym c.fill.ensures.value ∙ c.in_err-fill.was) in
     ap (tried g.L.Language g.S.Store) p.1 ∙ ap refused (p.2 ∙ ap Store (only_full _))

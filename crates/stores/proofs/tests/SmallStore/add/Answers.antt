@@ -10,4 +10,4 @@ invariant_of-self c =
     let room : length ms < 64 = omega arith in
     let more : length (take c.add.new.self.len c.add.new.self.items) ≡ length ms + 1 =
     ap length (c.add.ensures.after ∙ cond-true _ _ _ (lt-ltb (length ms) 64 room)) ∙ length_push ms c.args.message in
-    (omega arith, tt)
+    record { few = omega arith }

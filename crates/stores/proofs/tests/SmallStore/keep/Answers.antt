@@ -7,4 +7,4 @@ invariant_of-self c =
     let ms = take s.len s.items in
     let less : length (take c.keep.new.self.len c.keep.new.self.items) ≡ min c.args.n (length ms) =
     ap length c.keep.ensures.after ∙ length-take c.args.n ms in
-    (omega arith, tt)
+    record { few = omega arith }

@@ -22,10 +22,10 @@ returns-in_err-run g c =
     let head = c.args.self.now in
     let n = head.job.scope.threads in
     let l = head.job.scope.locations in
-    let p = err_from_is_err_and c.from-residual.result c.from-residual.ensures.1 in
+    let p = err_from_is_err_and c.from_residual.result c.from_residual.ensures.1 in
     let is = sym (ap (tried g.L.Language g.S.Store) c.in_err-run.was) ∙ c.new.ensures ∙ same_made _ _ _ _ _ _ c.threads.ensures c.locations.ensures in
     not_made (made (map g.L.Language.behaves c.args.threads) n l (g.S.Store.capacity c.args.store)) (λ r. trace_judged n l r (cut c.args.file.now (get_or head.sections n nowhere))) (n + 1) c.args.out.now
-    c.in_err-run.field-0.0 c.from-residual.result is (p.1 ∙ ap Err p.2)
+    c.in_err-run.field-0.0 c.from_residual.result is (p.1 ∙ ap Err p.2)
 
 pub put_accepted-requires : goal.put_accepted-requires
 put_accepted-requires g c =

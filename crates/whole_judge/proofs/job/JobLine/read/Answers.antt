@@ -18,9 +18,9 @@ returns-in_err-numbers c =
     let f = c.in_err-numbers.field-0.0 in
     let chosen : and_then (letter bs) (lookup job_lines.letters) ≡ Some tt = ap (λ o. and_then o (lookup job_lines.letters)) (sym c.in-Some.ensures) ∙ ap (lookup job_lines.letters) c.in-J.is in
     let both = refuses job_lines job_codec bs tt job_limits chosen refl c.line.new.self.rest.now c.in_err-numbers.ensures.left f c.in_err-numbers.ensures.numbers in
-    let p = err_from_is_err_and c.from-residual.result c.from-residual.ensures.1 in
+    let p = err_from_is_err_and c.from_residual.result c.from_residual.ensures.1 in
     let value = ap job_read (p.1 ∙ ap Err p.2) ∙ both.0 in
-    record { value = value; left = both.2; spelling = one_spelling job_lines job_codec bs (job_read c.from-residual.result) bs value both.2 }
+    record { value = value; left = both.2; spelling = one_spelling job_lines job_codec bs (job_read c.from_residual.result) bs value both.2 }
 
 pub returns-in_default-new : goal.returns-in_default-new
 returns-in_default-new c =

@@ -18,9 +18,9 @@ returns-in_err-numbers c =
     let f = c.in_err-numbers.field-0.0 in
     let chosen : and_then (letter bs) (lookup section_lines.letters) ≡ Some tt = ap (λ o. and_then o (lookup section_lines.letters)) (sym c.in-Some.ensures) ∙ ap (lookup section_lines.letters) c.in-D.is in
     let both = refuses section_lines section_codec bs tt two_limits chosen refl after c.in_err-numbers.ensures.left f c.in_err-numbers.ensures.numbers in
-    let p = err_from_is_err_and c.from-residual.result c.from-residual.ensures.1 in
+    let p = err_from_is_err_and c.from_residual.result c.from_residual.ensures.1 in
     let value = p.1 ∙ ap Err p.2 ∙ both.0 in
-    record { value = value; left = both.1; spelling = one_spelling section_lines section_codec bs c.from-residual.result after value both.1 }
+    record { value = value; left = both.1; spelling = one_spelling section_lines section_codec bs c.from_residual.result after value both.1 }
 
 pub returns : goal.returns
 returns c =
