@@ -1,5 +1,5 @@
 // Register lines and strip lines are lines of programs.
-ghost use Rattle.lines.specs.Families.{reads as family-reads};
+ghost use Rattle.lines.specs.Families.{reads as family_reads};
 ghost use Rattle.languages.specs.RegisterLines.{register_lines};
 ghost use Rattle.languages.specs.StripLines.{strip_lines};
 ghost use Rattle.lines.proofs.Familiar.{reads_shorter};
@@ -14,7 +14,7 @@ use lines::reader::{LineFault, Reader};
 use lines::scope::Scope;
 
 impl ProgramLine for RegisterLine {
-    ghost reads = { λ l bs. family-reads (register_lines l) bs };
+    ghost reads = { λ l bs. family_reads (register_lines l) bs };
 
     ghost shortens = { λ l h bs line rest e. reads_shorter (register_lines l) (register_codec l h) bs line rest e };
 
@@ -30,7 +30,7 @@ impl ProgramLine for RegisterLine {
 }
 
 impl ProgramLine for StripLine {
-    ghost reads = { λ l bs. family-reads (strip_lines l) bs };
+    ghost reads = { λ l bs. family_reads (strip_lines l) bs };
 
     ghost shortens = { λ l h bs line rest e. reads_shorter (strip_lines l) (strip_codec l h) bs line rest e };
 

@@ -10,7 +10,7 @@ use Rattle.languages.specs.declared.action.ReadMode.{ReadMode}
 use Rattle.languages.specs.declared.action.WriteMode.{WriteMode}
 use Rattle.languages.specs.declared.action.WriteMode.TheVariants.{Relaxed, Release}
 use Rattle.languages.specs.declared.action.FenceKind.{FenceKind}
-use Rattle.languages.specs.declared.action.FenceKind.TheVariants.{Acquire as Acquire-fence, Release as Release-fence, Both, Sequential}
+use Rattle.languages.specs.declared.action.FenceKind.TheVariants.{Acquire as AcquireFence, Release as ReleaseFence, Both, Sequential}
 use Rattle.languages.specs.declared.action.Taking.{Taking}
 use Rattle.languages.specs.declared.action.Taking.TheVariants.{NotTaken, OnlyRead, Replaced}
 use Rattle.languages.specs.Behaviours.{after}
@@ -123,8 +123,8 @@ module _ (l i : ℕ) (closing : Option View) (p : Part) (marks : Marks p.thread.
       (λ _. tt)
 
   fence_step : (o : FenceKind) → next_of l k.does ≡ Fence o → When (To N) (fence_result p o)
-  fence_step Acquire-fence e = stays N (goes_on k 0 (acquire_views k.views)) (ap (printed i) e) marks (acquire_fence e)
-  fence_step Release-fence e =
+  fence_step AcquireFence e = stays N (goes_on k 0 (acquire_views k.views)) (ap (printed i) e) marks (acquire_fence e)
+  fence_step ReleaseFence e =
       cond_both (none_owed k.owed) (went (with_thread p (goes_on k 0 (release_views k.views)))) (refused Owing) (When (To N))
       (λ o. stays N (goes_on k 0 (release_views k.views)) (ap (printed i) e) marks (release_fence e (nothing k.owed ms o))) (λ _. tt)
   fence_step Both e =

@@ -4,7 +4,7 @@ use Rattle.std.proofs.lemmas.Bool.{and_parts, eqb-true, eq-eqb, ne_eqb, ltb-true
 use Rattle.lines.specs.declared.trace.Line.{Line}
 use Rattle.lines.specs.declared.trace.Line.TheVariants.{Turn as T, Next as N, Read as R, Write as W, Update as U, Promise as G, Keep as H, Show as X, EndTurn as E}
 use Rattle.languages.specs.declared.action.ReadMode.{ReadMode}
-use Rattle.languages.specs.declared.action.ReadMode.TheVariants.{Relaxed as Relaxed-read, Acquire}
+use Rattle.languages.specs.declared.action.ReadMode.TheVariants.{Relaxed as RelaxedRead, Acquire}
 use Rattle.languages.specs.declared.action.Taking.{Taking}
 use Rattle.stores.specs.declared.view.View.{View}
 use Rattle.stores.specs.declared.message.Message.{Message}
@@ -67,11 +67,11 @@ join_more : (v w : View) (x : ℕ) → at v x ≤ at (join v w) x
 join_more v w x = let a = at_join v w x in omega arith
 
 read_more : (o : ReadMode) (x t : ℕ) (m c : View) (y : ℕ) → at c y ≤ at (read_cur o x t m c) y
-read_more Relaxed-read x t m c y = join_more c (single x t) y
+read_more RelaxedRead x t m c y = join_more c (single x t) y
 read_more Acquire x t m c y = let a = join_more c (single x t) y in let b = join_more (join c (single x t)) m y in omega arith
 
 read_end : (o : ReadMode) (x t : ℕ) (m c : View) → x < 8 → t ≤ at (read_cur o x t m c) x
-read_end Relaxed-read x t m c lt = single_end c x t lt
+read_end RelaxedRead x t m c lt = single_end c x t lt
 read_end Acquire x t m c lt = let a = single_end c x t lt in let b = join_more (join c (single x t)) m x in omega arith
 
 module _ (i : ℕ) (r : Run) (g : Good r) where

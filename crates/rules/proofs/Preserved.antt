@@ -7,7 +7,7 @@ use Rattle.lines.specs.declared.trace.Line.{Line}
 use Rattle.languages.specs.declared.action.Action.{Action}
 use Rattle.languages.specs.declared.action.Action.TheVariants.{Silent, Read, Write, Update, Fence, Print, Ended}
 use Rattle.languages.specs.declared.action.ReadMode.{ReadMode}
-use Rattle.languages.specs.declared.action.ReadMode.TheVariants.{Relaxed as Relaxed-read, Acquire}
+use Rattle.languages.specs.declared.action.ReadMode.TheVariants.{Relaxed as RelaxedRead, Acquire}
 use Rattle.languages.specs.declared.action.WriteMode.{WriteMode}
 use Rattle.languages.specs.declared.action.WriteMode.TheVariants.{Relaxed, Release}
 use Rattle.stores.specs.declared.view.View.{View}
@@ -139,15 +139,15 @@ read_fit ms o m vs i km h = record {
     ks = known_single ms m i
 
     cur : (o : ReadMode) → Known ms (read_cur o m.location m.to m.view vs.cur)
-    cur Relaxed-read = known_join ms vs.cur (single m.location m.to) h.known.cur ks
+    cur RelaxedRead = known_join ms vs.cur (single m.location m.to) h.known.cur ks
     cur Acquire = known_join ms (join vs.cur (single m.location m.to)) m.view (known_join ms vs.cur (single m.location m.to) h.known.cur ks) km
 
     more : (o : ReadMode) (y : ℕ) → at vs.cur y ≤ at (read_cur o m.location m.to m.view vs.cur) y
-    more Relaxed-read y = let a = at_join vs.cur (single m.location m.to) y in omega arith
+    more RelaxedRead y = let a = at_join vs.cur (single m.location m.to) y in omega arith
     more Acquire y = let a = at_join vs.cur (single m.location m.to) y in let b = at_join (join vs.cur (single m.location m.to)) m.view y in omega arith
 
     below : (o : ReadMode) → Below (read_cur o m.location m.to m.view vs.cur) (join (join vs.acq (single m.location m.to)) m.view)
-    below Relaxed-read y =
+    below RelaxedRead y =
         let a = at_join vs.cur (single m.location m.to) y in
         let b = at_join vs.acq (single m.location m.to) y in
         let c = at_join (join vs.acq (single m.location m.to)) m.view y in
@@ -225,7 +225,7 @@ read_cur_end o x t m c h g = go o
         ]
 
     go : (o : ReadMode) → at (read_cur o x t m c) x ≤ t
-    go Relaxed-read = let a = at_join c (single x t) x in omega (arith, s_end)
+    go RelaxedRead = let a = at_join c (single x t) x in omega (arith, s_end)
     go Acquire = let a = at_join c (single x t) x in let b = at_join (join c (single x t)) m x in omega (arith, s_end)
 
 pub formed_end : (m : Message) → WellFormed m → at m.view m.location ≤ m.to

@@ -6,7 +6,7 @@ use Rattle.std.proofs.lemmas.List.{map_push, map-set}
 use Rattle.lines.specs.declared.trace.Line.{Line}
 use Rattle.lines.specs.declared.trace.Line.TheVariants.{Next as N, Read as R, Write as W, Update as U, Keep as H}
 use Rattle.languages.specs.declared.action.ReadMode.{ReadMode}
-use Rattle.languages.specs.declared.action.ReadMode.TheVariants.{Relaxed as Relaxed-read, Acquire}
+use Rattle.languages.specs.declared.action.ReadMode.TheVariants.{Relaxed as RelaxedRead, Acquire}
 use Rattle.languages.specs.declared.action.WriteMode.{WriteMode}
 use Rattle.languages.specs.declared.action.WriteMode.TheVariants.{Relaxed, Release}
 use Rattle.languages.specs.Behaviours.{after}
@@ -158,7 +158,7 @@ module _ (low by : ℕ → ℕ) where
   take_both x t v m = shift_join (join v (single x t)) m ∙ ap (λ (w : View). join w (shift_view m)) (take_in x t v)
 
   shift_read_cur : (o : ReadMode) (x t : ℕ) (m c : View) → shift_view (read_cur o x t m c) ≡ read_cur o x (shift x t) (shift_view m) (shift_view c)
-  shift_read_cur Relaxed-read x t m c = take_in x t c
+  shift_read_cur RelaxedRead x t m c = take_in x t c
   shift_read_cur Acquire x t m c = take_both x t c m
 
   shift_read : (o : ReadMode) (x t : ℕ) (m : View) (vs : Views) → shift_views (read_views o x t m vs) ≡ read_views o x (shift x t) (shift_view m) (shift_views vs)

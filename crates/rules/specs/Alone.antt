@@ -6,7 +6,7 @@ use Rattle.languages.specs.declared.action.Action.TheVariants.{Silent, Write, Up
 use Rattle.languages.specs.declared.action.ReadMode.{ReadMode}
 use Rattle.languages.specs.declared.action.WriteMode.{WriteMode}
 use Rattle.languages.specs.declared.action.WriteMode.TheVariants.{Relaxed, Release}
-use Rattle.languages.specs.declared.action.FenceKind.TheVariants.{Acquire as Acquire-fence, Release as Release-fence, Both, Sequential}
+use Rattle.languages.specs.declared.action.FenceKind.TheVariants.{Acquire as AcquireFence, Release as ReleaseFence, Both, Sequential}
 use Rattle.languages.specs.declared.action.Taking.TheVariants.{OnlyRead, Replaced}
 use Rattle.languages.specs.Behaviours.{Behaviour, after}
 use Rattle.stores.specs.declared.view.View.{View}
@@ -48,8 +48,8 @@ Above (Some line) x f = at line x < f
 -- one step of the thread k, on l locations, with the view S and the memory M: by which line, and thread, S and memory after it
 pub data Alone (l : ℕ) (closing : Option View) (k : Lone) (S : View) (M : List Message) : Line → Lone → View → List Message → Type 0 where
   silent : next_of l k.does ≡ Silent → Alone l closing k S M N (went_on k 0 k.views) S M
-  acquire_fence : next_of l k.does ≡ Fence Acquire-fence → Alone l closing k S M N (went_on k 0 (acquire_views k.views)) S M
-  release_fence : next_of l k.does ≡ Fence Release-fence → OwesNothing k
+  acquire_fence : next_of l k.does ≡ Fence AcquireFence → Alone l closing k S M N (went_on k 0 (acquire_views k.views)) S M
+  release_fence : next_of l k.does ≡ Fence ReleaseFence → OwesNothing k
       → Alone l closing k S M N (went_on k 0 (release_views k.views)) S M
   both_fence : next_of l k.does ≡ Fence Both → OwesNothing k
       → Alone l closing k S M N (went_on k 0 (both_views k.views)) S M

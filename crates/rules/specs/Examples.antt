@@ -2,9 +2,9 @@
 use Rattle.std.specs.Prelude.{◌≡◌, ℕ, ◌+◌, List, [], ◌∷◌, map}
 use Rattle.lines.specs.declared.trace.Line.{Line}
 use Rattle.lines.specs.declared.trace.Line.TheVariants.{Turn as T, Next as N, Read as R, Write as W, Update as U, Promise as G, Keep as H, Show as X, EndTurn as E}
-use Rattle.languages.specs.declared.action.ReadMode.TheVariants.{Relaxed as Relaxed-read, Acquire}
+use Rattle.languages.specs.declared.action.ReadMode.TheVariants.{Relaxed as RelaxedRead, Acquire}
 use Rattle.languages.specs.declared.action.WriteMode.TheVariants.{Relaxed, Release}
-use Rattle.languages.specs.declared.action.FenceKind.TheVariants.{Acquire as Acquire-fence, Sequential}
+use Rattle.languages.specs.declared.action.FenceKind.TheVariants.{Acquire as AcquireFence, Sequential}
 use Rattle.languages.specs.declared.registers.RegisterLine.{RegisterLine}
 use Rattle.languages.specs.declared.registers.RegisterLine.TheVariants.{Constant, Load, Store, FetchAdd, Fence}
 use Rattle.languages.specs.Registers.{register_start}
@@ -53,25 +53,25 @@ buffered_trace =
     T 0 ∷ G 1 1 0 1 ∷ X ∷ R 0 ∷ N ∷ H 1 ∷ E ∷ T 1 ∷ R 1 ∷ W 0 1 ∷ E ∷ T 0 ∷ R 1 ∷ N ∷ H 1 ∷ E ∷ []
 
 abbrev pub copier : List RegisterLine
-copier = Load 0 1 Relaxed-read ∷ Store 0 0 Relaxed ∷ []
+copier = Load 0 1 RelaxedRead ∷ Store 0 0 Relaxed ∷ []
 
 abbrev pub LoadBuffering : Type 0
 LoadBuffering =
-    ending (two (Load 0 0 Relaxed-read ∷ Constant 1 1 ∷ Store 1 1 Relaxed ∷ []) copier buffered_trace)
+    ending (two (Load 0 0 RelaxedRead ∷ Constant 1 1 ∷ Store 1 1 Relaxed ∷ []) copier buffered_trace)
     ≡ ends_with ((0 ∷ 0 ∷ 0 ∷ 0 ∷ []) ∷ (1 ∷ 0 ∷ 0 ∷ 0 ∷ []) ∷ (1 ∷ 0 ∷ 1 ∷ 1 ∷ []) ∷ (0 ∷ 0 ∷ 1 ∷ 1 ∷ []) ∷ [])
     ((1 ∷ 1 ∷ []) ∷ (1 ∷ 1 ∷ []) ∷ [])
 
 -- the same, but the value written depends on the value read: it cannot be shown
 abbrev pub OutOfThinAir : Type 0
-OutOfThinAir = ending (two (Load 0 0 Relaxed-read ∷ Constant 1 1 ∷ Store 1 0 Relaxed ∷ []) copier buffered_trace) ≡ refused_at 5 12
+OutOfThinAir = ending (two (Load 0 0 RelaxedRead ∷ Constant 1 1 ∷ Store 1 0 Relaxed ∷ []) copier buffered_trace) ≡ refused_at 5 12
 
 -- the same, but the thread reads its own promise
 abbrev pub OwnPromiseRead : Type 0
-OwnPromiseRead = ending (two (Load 0 1 Relaxed-read ∷ Constant 1 1 ∷ Store 1 1 Relaxed ∷ []) copier buffered_trace) ≡ refused_at 14 11
+OwnPromiseRead = ending (two (Load 0 1 RelaxedRead ∷ Constant 1 1 ∷ Store 1 1 Relaxed ∷ []) copier buffered_trace) ≡ refused_at 14 11
 
 -- two updates of one message, and of one message and the next
 abbrev pub adder : List RegisterLine
-adder = FetchAdd 0 0 1 Relaxed-read Relaxed ∷ []
+adder = FetchAdd 0 0 1 RelaxedRead Relaxed ∷ []
 
 abbrev pub UpdatesClash : Type 0
 UpdatesClash = ending (two adder adder (T 0 ∷ U 0 1 ∷ E ∷ T 1 ∷ U 0 2 ∷ [])) ≡ refused_at 4 13
@@ -88,23 +88,23 @@ sender = Store 0 0 Relaxed ∷ Store 1 0 Release ∷ []
 
 abbrev pub MessagePassing : Type 0
 MessagePassing =
-    ending (two sender (Load 0 1 Acquire ∷ Load 1 0 Relaxed-read ∷ []) (T 0 ∷ W 0 1 ∷ W 0 1 ∷ E ∷ T 1 ∷ R 1 ∷ R 0 ∷ [])) ≡ refused_at 6 11
+    ending (two sender (Load 0 1 Acquire ∷ Load 1 0 RelaxedRead ∷ []) (T 0 ∷ W 0 1 ∷ W 0 1 ∷ E ∷ T 1 ∷ R 1 ∷ R 0 ∷ [])) ≡ refused_at 6 11
 
 abbrev pub MessagePassingRelaxed : Type 0
 MessagePassingRelaxed =
-    ending (two sender (Load 0 1 Relaxed-read ∷ Load 1 0 Relaxed-read ∷ []) (T 0 ∷ W 0 1 ∷ W 0 1 ∷ E ∷ T 1 ∷ R 1 ∷ R 0 ∷ []))
+    ending (two sender (Load 0 1 RelaxedRead ∷ Load 1 0 RelaxedRead ∷ []) (T 0 ∷ W 0 1 ∷ W 0 1 ∷ E ∷ T 1 ∷ R 1 ∷ R 0 ∷ []))
     ≡ ends_with ((0 ∷ 0 ∷ 0 ∷ 0 ∷ []) ∷ (1 ∷ 0 ∷ 0 ∷ 0 ∷ []) ∷ (0 ∷ 0 ∷ 1 ∷ 0 ∷ []) ∷ (1 ∷ 0 ∷ 1 ∷ 0 ∷ []) ∷ [])
     ((1 ∷ 1 ∷ []) ∷ (0 ∷ 1 ∷ []) ∷ [])
 
 abbrev pub MessagePassingFenced : Type 0
 MessagePassingFenced =
-    ending (two sender (Load 0 1 Relaxed-read ∷ Fence Acquire-fence ∷ Load 1 0 Relaxed-read ∷ []) (T 0 ∷ W 0 1 ∷ W 0 1 ∷ E ∷ T 1 ∷ R 1 ∷ N ∷ R 0 ∷ []))
+    ending (two sender (Load 0 1 RelaxedRead ∷ Fence AcquireFence ∷ Load 1 0 RelaxedRead ∷ []) (T 0 ∷ W 0 1 ∷ W 0 1 ∷ E ∷ T 1 ∷ R 1 ∷ N ∷ R 0 ∷ []))
     ≡ refused_at 7 11
 
 -- store buffering with sequential fences: not both read the old value
 abbrev pub StoreBufferingFenced : Type 0
 StoreBufferingFenced =
-    ending (two (Constant 1 1 ∷ Store 0 1 Relaxed ∷ Fence Sequential ∷ Load 0 1 Relaxed-read ∷ []) (Constant 1 1 ∷ Store 1 1 Relaxed ∷ Fence Sequential ∷ Load 0 0 Relaxed-read ∷ [])
+    ending (two (Constant 1 1 ∷ Store 0 1 Relaxed ∷ Fence Sequential ∷ Load 0 1 RelaxedRead ∷ []) (Constant 1 1 ∷ Store 1 1 Relaxed ∷ Fence Sequential ∷ Load 0 0 RelaxedRead ∷ [])
     (T 0 ∷ N ∷ W 0 1 ∷ N ∷ R 0 ∷ E ∷ T 1 ∷ N ∷ W 0 1 ∷ N ∷ R 0 ∷ []))
     ≡ refused_at 10 11
 

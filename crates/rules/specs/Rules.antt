@@ -8,7 +8,7 @@ use Rattle.languages.specs.declared.action.ReadMode.{ReadMode}
 use Rattle.languages.specs.declared.action.WriteMode.{WriteMode}
 use Rattle.languages.specs.declared.action.WriteMode.TheVariants.{Relaxed, Release}
 use Rattle.languages.specs.declared.action.FenceKind.{FenceKind}
-use Rattle.languages.specs.declared.action.FenceKind.TheVariants.{Acquire as Acquire-fence, Release as Release-fence, Both, Sequential}
+use Rattle.languages.specs.declared.action.FenceKind.TheVariants.{Acquire as AcquireFence, Release as ReleaseFence, Both, Sequential}
 use Rattle.languages.specs.declared.action.Taking.{Taking}
 use Rattle.languages.specs.declared.action.Taking.TheVariants.{NotTaken, OnlyRead, Replaced}
 use Rattle.languages.specs.Behaviours.{Behaviour, after}
@@ -52,8 +52,8 @@ with_thread p k = record { thread = k; memory = p.memory; capacity = p.capacity;
 -- N: a silent step, a fence or a print of the thread i
 
 abbrev pub fence_result : Part → FenceKind → Tried Part
-fence_result p Acquire-fence = went (with_thread p (goes_on p.thread 0 (acquire_views p.thread.views)))
-fence_result p Release-fence =
+fence_result p AcquireFence = went (with_thread p (goes_on p.thread 0 (acquire_views p.thread.views)))
+fence_result p ReleaseFence =
     cond (none_owed p.thread.owed) (went (with_thread p (goes_on p.thread 0 (release_views p.thread.views)))) (refused Owing)
 fence_result p Both =
     cond (none_owed p.thread.owed) (went (with_thread p (goes_on p.thread 0 (both_views p.thread.views)))) (refused Owing)

@@ -3,7 +3,7 @@ use Rattle.std.specs.Prelude.{ℕ, ◌+◌, Bool, true, false, cond, not, ◌&&�
 use Rattle.languages.specs.declared.action.Action.{Action}
 use Rattle.languages.specs.declared.action.Action.TheVariants.{Silent, Read, Write, Update, Fence, Print, Ended}
 use Rattle.languages.specs.declared.action.ReadMode.{ReadMode}
-use Rattle.languages.specs.declared.action.ReadMode.TheVariants.{Relaxed as Relaxed-read, Acquire}
+use Rattle.languages.specs.declared.action.ReadMode.TheVariants.{Relaxed as RelaxedRead, Acquire}
 use Rattle.languages.specs.declared.action.WriteMode.{WriteMode}
 use Rattle.languages.specs.declared.action.WriteMode.TheVariants.{Relaxed, Release}
 use Rattle.languages.specs.Behaviours.{Behaviour}
@@ -42,7 +42,7 @@ rel_at vs x = slice_index_or vs.rel x zero_view
 
 -- cur takes in {x@t}, and the message's view m if the read is an acquire
 abbrev pub read_cur : ReadMode → ℕ → ℕ → View → View → View
-read_cur Relaxed-read x t m c = join c (single x t)
+read_cur RelaxedRead x t m c = join c (single x t)
 read_cur Acquire x t m c = join (join c (single x t)) m
 
 -- acq takes in {x@t} and m

@@ -2,7 +2,7 @@
 use Rattle.std.proofs.Common.{◌≡◌, ℕ, zero, suc, ◌<◌, List, [], ◌∷◌, length, get_or, set, refl, ap, ◌∙◌}
 use Rattle.std.proofs.lemmas.List.{get_or_default}
 use Rattle.languages.specs.declared.action.ReadMode.{ReadMode}
-use Rattle.languages.specs.declared.action.ReadMode.TheVariants.{Relaxed as Relaxed-read, Acquire}
+use Rattle.languages.specs.declared.action.ReadMode.TheVariants.{Relaxed as RelaxedRead, Acquire}
 use Rattle.languages.specs.declared.action.WriteMode.{WriteMode}
 use Rattle.languages.specs.declared.action.WriteMode.TheVariants.{Relaxed, Release}
 use Rattle.stores.specs.declared.view.View.{View}
@@ -12,7 +12,7 @@ use Rattle.rules.specs.Threads.{read_cur, write_rel}
 use Rattle.run.specs.Orders.{AllBelow, acquired}
 
 pub read_cur_is : (o : ReadMode) (x t : ℕ) (m c : View) → acquired o (join c (single x t)) m ≡ read_cur o x t m c
-read_cur_is Relaxed-read x t m c = refl
+read_cur_is RelaxedRead x t m c = refl
 read_cur_is Acquire x t m c = refl
 
 -- a join with one view keeps the order
@@ -20,11 +20,11 @@ pub join_keeps : (a b v : View) → Below a b → Below (join a v) (join b v)
 join_keeps a b v h = join_least a v (join b v) (below_trans a b (join b v) h (join_left b v)) (join_right b v)
 
 acquired_above : (o : ReadMode) (c m : View) → Below c (acquired o c m)
-acquired_above Relaxed-read c m = below_refl c
+acquired_above RelaxedRead c m = below_refl c
 acquired_above Acquire c m = join_left c m
 
 acquired_below : (o : ReadMode) (c a m : View) → Below c a → Below (acquired o c m) (join a m)
-acquired_below Relaxed-read c a m h = below_trans c a (join a m) h (join_left a m)
+acquired_below RelaxedRead c a m h = below_trans c a (join a m) h (join_left a m)
 acquired_below Acquire c a m h = join_keeps c a m h
 
 -- cur and acq after a read

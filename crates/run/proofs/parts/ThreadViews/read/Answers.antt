@@ -16,4 +16,8 @@ invariant_of-self c =
     let above : Below s.cur c.read_into-cur.result = subst (λ (v : View). Below s.cur v) (sym cur) (read_above c.args.mode s.cur one m) in
     let below : Below (acquired c.args.mode (join s.cur one) m) c.join-acq.result =
     subst (λ (v : View). Below (acquired c.args.mode (join s.cur one) m) v) (sym acq) (read_ordered c.args.mode s.cur s.acq one m s.cur_acq) in
-    (s.eight, (subst (λ (v : View). Below v c.join-acq.result) (sym cur) below, (all_below_trans s.rel s.cur _ s.rel_cur above, tt)))
+    record {
+      eight = s.eight;
+      cur_acq = subst (λ (v : View). Below v c.join-acq.result) (sym cur) below;
+      rel_cur = all_below_trans s.rel s.cur _ s.rel_cur above;
+    }

@@ -19,7 +19,11 @@ invariant_of-self c =
     let above : Below s.cur c.join-cur.result = subst (λ (v : View). Below s.cur v) (sym cur) (join_left s.cur one) in
     let rel : Below c.released_into-rel.result c.join-cur.result =
     subst (λ (v : View). Below v c.join-cur.result) (sym written) (subst (λ (v : View). Below (write_rel c.args.mode (join (get_or s.rel x zero_view) one) (join s.cur one)) v) (sym cur) (rel_below c.args.mode (get_or s.rel x zero_view) s.cur one (s.rel_cur x))) in
-    (length-set s.rel x _ ∙ s.eight, (ordered, (all_below_set s.rel x _ _ (all_below_trans s.rel s.cur _ s.rel_cur above) rel, tt)))
+    record {
+      eight = length-set s.rel x _ ∙ s.eight;
+      cur_acq = ordered;
+      rel_cur = all_below_set s.rel x _ _ (all_below_trans s.rel s.cur _ s.rel_cur above) rel;
+    }
 
 pub returns : goal.returns
 returns c =

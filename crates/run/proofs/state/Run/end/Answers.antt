@@ -16,7 +16,7 @@ pub invariant_of-self : goal.invariant_of-self
 invariant_of-self g c =
     let run = c.args.self.now in
     let none : whose c.replace.new.dest ≡ 0 = ap whose c.replace.ensures.after in
-    (run.few_locations, (run.few_threads, (run.whole, (omega arith, tt))))
+    record { few_locations = run.few_locations; few_threads = run.few_threads; whole = run.whole; turn_of = omega arith }
 
 pub put_back-requires : goal.put_back-requires
 put_back-requires g c = (search rules, omega arith)
