@@ -3,10 +3,10 @@
 #   examples/c/run.sh [FILE]
 set -euo pipefail
 root=$(cd "$(dirname "$0")/../.." && pwd)
-kit=$(dirname "$(dirname "$(rt doc)")")
+built=$root/crates/judge_c/out
 file=${1:-$root/examples/load-buffering.job}
 
-(cd "$root" && rt staticlib judge) >&2
-cc -O2 -Wall -Wextra -I "$root/include" -o "$root/target/judge-from-c" \
-    "$root/examples/c/judge.c" "$root/target/staticlib/libjudge.a" "$kit/lib/librattle_c.a"
-"$root/target/judge-from-c" <"$file"
+(cd "$root/crates/judge_c" && rt lib) >&2
+cp "$built/libjudge_c.a" "$built/libjudge.a"
+cc -O2 -Wall -Wextra -I "$root/include" -o "$built/judge-from-c" "$root/examples/c/judge.c" "$built/libjudge.a"
+"$built/judge-from-c" <"$file"

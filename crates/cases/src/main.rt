@@ -1,4 +1,6 @@
 // Judges small job files, and prints the report on each.
+#![tactic(auto)]
+
 use judge::report::{LEAST_REPORT, judge};
 use std::io;
 use std::io::Write;

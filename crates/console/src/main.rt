@@ -1,4 +1,6 @@
 // Reads a job file from standard input, and prints the report on it.
+#![tactic(auto)]
+
 use judge::outcome::MOST_FILE;
 use judge::report::{LEAST_REPORT, judge};
 use std::alloc::Global;

@@ -1,5 +1,5 @@
 -- The form of a file, put together.
-use Rattle.std.proofs.Common.{◌≡◌, ℕ, ◌+◌, ◌<◌, ◌≤◌, List, [], ◌∷◌, map, length, get_or, take, Ok, Err, Result, sym, refl, ap, ◌∙◌, arith, le-ltb}
+use Rattle.std.proofs.Common.{◌≡◌, ℕ, ◌+◌, ◌≤◌, List, [], ◌∷◌, map, length, get_or, take, Ok, Result, sym, refl, ap, ◌∙◌, arith, le-ltb}
 use Rattle.std.proofs.lemmas.List.{take-map, take-take, get_or-take}
 use Rattle.lines.specs.declared.reader.LineFault.{LineFault}
 use Rattle.languages.specs.declared.read_program.Program.{Program}
@@ -7,9 +7,8 @@ use Rattle.languages.specs.Programs.{program_lines}
 use Rattle.judge.specs.declared.fault.Refusal.{Refusal}
 use Rattle.judge.specs.declared.section.Section.{Section}
 use Rattle.judge.specs.Heads.{and_then, Heading, heading}
-use Rattle.judge.specs.Programs.{cut, programs_after}
-use Rattle.judge.specs.Traces.{trace_lines_read}
-use Rattle.judge.specs.Outcomes.{Counts, nowhere, trace_in, with_trace, read_as, read_in, judged_form}
+use Rattle.judge.specs.Programs.{programs_after}
+use Rattle.judge.specs.Outcomes.{Counts, nowhere, with_trace, read_as, read_in, judged_form}
 
 pub four : {X : Type 0} (f : X → ℕ) (xs : List X) (d : X) → length xs ≡ 4 → map f xs ≡ f (get_or xs 0 d) ∷ f (get_or xs 1 d) ∷ f (get_or xs 2 d) ∷ f (get_or xs 3 d) ∷ []
 four f [] d h = absurd (omega arith)

@@ -1,16 +1,16 @@
 -- The head's definition and its words agree.
-use Rattle.std.proofs.Common.{◌≡◌, ℕ, zero, suc, ◌+◌, ◌-◌, ◌≤◌, Bool, true, false, cond, ◌&&◌, eqb, leb, ◌⊎◌, List, [], ◌∷◌, ◌++◌, length, Some, None, Ok, Err, Option, Result, sym, refl, ap, ◌∙◌, subst, inl, inr, append_assoc, arith, eq-eqb, le-leb}
-use Rattle.std.proofs.lemmas.List.{append-nil, length-append}
-use Rattle.std.proofs.lemmas.Bool.{cases_Bool, and_parts, and_from, eqb-true, leb-true}
+use Rattle.std.proofs.Common.{◌≡◌, ℕ, zero, suc, ◌+◌, ◌-◌, ◌≤◌, Bool, true, false, cond, List, [], ◌∷◌, ◌++◌, length, Some, None, Ok, Err, Option, Result, sym, refl, ap, ◌∙◌, subst, append_assoc, arith, eq-eqb, le-leb}
+use Rattle.std.proofs.lemmas.List.{append-nil}
+use Rattle.std.proofs.lemmas.Bool.{and_parts, eqb-true}
 use Rattle.lines.specs.declared.reader.LineFault.{LineFault}
 use Rattle.lines.specs.declared.refusal.LineRefusal.{LineRefusal}
 use Rattle.lines.specs.Families.{reads, spells}
-use Rattle.lines.proofs.Options.{some_same, none_some, err_ok, ok_same}
+use Rattle.lines.proofs.Options.{none_some, err_ok, ok_same}
 use Rattle.lines.proofs.Familiar.{is_spelled, is_read}
 use Rattle.judge.specs.declared.fault.Refusal.{Refusal}
 use Rattle.judge.specs.declared.section.Section.{Section}
-use Rattle.judge.specs.Jobs.{Job, job_lines, JobFits}
-use Rattle.judge.specs.Sections.{section_lines, Tiles, lies, none_left, first_wrong}
+use Rattle.judge.specs.Jobs.{Job, job_lines}
+use Rattle.judge.specs.Sections.{section_lines, Tiles, lies, first_wrong}
 use Rattle.judge.specs.Heads.{and_section, sections_from, Heading, and_then, line_fault_in, at_line, tiled, heading}
 use Rattle.judge.specs.HeadLaws.{sections_spelled, AllFit, Begins, HeadExact}
 use Rattle.judge.proofs.JobCodec.{job_codec}

@@ -6,7 +6,7 @@ use Rattle.lines.specs.Families.{reads}
 use Rattle.judge.specs.declared.fault.Fault.TheVariants.{Line, Sections}
 use Rattle.judge.specs.declared.fault.Refusal.{Refusal}
 use Rattle.judge.specs.declared.section.Section.{Section}
-use Rattle.judge.specs.Jobs.{Job, job_lines, job_of}
+use Rattle.judge.specs.Jobs.{Job, job_lines}
 use Rattle.judge.specs.Sections.{section_lines, first_wrong}
 
 -- so many section lines more, after those that were read, and what follows them; n is the next line's number

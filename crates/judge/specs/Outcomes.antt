@@ -1,5 +1,5 @@
 -- What is found of a job file.
-use Rattle.std.specs.Prelude.{ℕ, ◌+◌, cond, List, [], ◌∷◌, map, length, take, Ok, Err, Result, nat_lt, slice_index_or}
+use Rattle.std.specs.Prelude.{ℕ, ◌+◌, cond, List, [], map, length, take, Ok, Err, Result, nat_lt, slice_index_or}
 use Rattle.lines.specs.declared.reader.LineFault.{LineFault}
 use Rattle.lines.specs.declared.refusal.LineRefusal.{LineRefusal}
 use Rattle.lines.specs.Families.{reads}
@@ -12,7 +12,7 @@ use Rattle.judge.specs.declared.job.LanguageChoice.{LanguageChoice}
 use Rattle.judge.specs.declared.job.LanguageChoice.TheVariants.{Registers, Strips}
 use Rattle.judge.specs.declared.outcome.Form.{Form}
 use Rattle.judge.specs.declared.section.Section.{Section}
-use Rattle.judge.specs.Heads.{and_then, Heading, heading}
+use Rattle.judge.specs.Heads.{and_then, heading}
 use Rattle.judge.specs.Programs.{cut, programs_after}
 use Rattle.judge.specs.Traces.{trace_lines_read}
 

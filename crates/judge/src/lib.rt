@@ -1,4 +1,6 @@
 // Judges a job file, and writes the report.
+#![tactic(auto)]
+
 pub mod fault;
 pub mod head;
 pub mod job;

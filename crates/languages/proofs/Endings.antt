@@ -1,5 +1,5 @@
 -- Threads that have ended, in both languages.
-use Rattle.std.proofs.Common.{◌≡◌, ℕ, ◌+◌, ◌≤◌, Bool, List, [], ◌∷◌, length, Some, None, Option, refl, ap, ◌∙◌, arith}
+use Rattle.std.proofs.Common.{◌≡◌, ℕ, ◌+◌, ◌≤◌, List, [], ◌∷◌, length, Some, None, Option, refl, ap, ◌∙◌, arith}
 use Rattle.std.proofs.lemmas.Option.{slice_get_past}
 use Rattle.languages.specs.Endings.{StaysEnded, EndsWithin}
 use Rattle.languages.specs.Meanings.{Meaning, behaviour, if_in_range, line_at, means_at}

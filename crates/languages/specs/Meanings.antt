@@ -1,7 +1,7 @@
 -- What each state of a language means, and the behaviour that follows from it.
 use Rattle.std.specs.Prelude.{ℕ, ◌<◌, Bool, cond, List, [], ◌∷◌, Some, None, Option}
 use Rattle.std.specs.List.{slice_get}
-use Rattle.languages.specs.Behaviours.{Moment, Behaviour}
+use Rattle.languages.specs.Behaviours.{Behaviour}
 use Rattle.languages.specs.declared.action.Action.{Action}
 use Rattle.languages.specs.declared.action.Action.TheVariants.{Silent, Read, Write, Update, Fence, Print, Ended}
 use Rattle.languages.specs.declared.action.Taking.{Taking}

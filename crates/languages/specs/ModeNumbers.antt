@@ -1,5 +1,5 @@
 -- Modes and fences have one number each.
-use Rattle.std.specs.Prelude.{◌≡◌, ℕ, ◌≤◌, eqb, ◌⊎◌, refl}
+use Rattle.std.specs.Prelude.{◌≡◌, ℕ, ◌≤◌, refl}
 use Rattle.std.proofs.Common.{sym, inl, inr, arith, eq-eqb, ne_eqb}
 use Rattle.std.proofs.lemmas.Bool.{cases_eq}
 use Rattle.languages.specs.declared.action.ReadMode.{ReadMode}

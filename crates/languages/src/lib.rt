@@ -1,4 +1,6 @@
 // Thread languages: what a thread does next, and how it goes on.
+#![tactic(auto)]
+
 pub mod action;
 pub mod language;
 pub mod modes;

@@ -1,5 +1,5 @@
 -- What is known of the bytes from what a reader's call answered.
-use Rattle.std.proofs.Common.{◌≡◌, ℕ, Bool, true, false, List, [], ◌∷◌, length, take, Some, None, Option, sym, refl, ap, ◌∙◌, subst, arith}
+use Rattle.std.proofs.Common.{◌≡◌, ℕ, true, false, List, length, take, Some, None, Option, sym, refl, ap, ◌∙◌, subst, arith}
 use Rattle.lines.specs.declared.reader.Field.{Field}
 use Rattle.std.specs.Option.{option_map}
 use Rattle.lines.specs.declared.reader.Fields.{Fields}

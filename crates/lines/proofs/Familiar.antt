@@ -1,16 +1,16 @@
 -- Each line of a family has one spelling.
-use Rattle.std.proofs.Common.{◌≡◌, ℕ, zero, suc, ◌+◌, ◌<◌, ◌≤◌, min, true, false, cond, eqb, ◌⊎◌, List, [], ◌∷◌, ◌++◌, length, get_or, take, Some, None, Ok, Err, Option, Result, sym, refl, ap, ◌∙◌, subst, inl, inr, add-one, arith}
+use Rattle.std.proofs.Common.{◌≡◌, ℕ, zero, suc, ◌+◌, ◌<◌, ◌≤◌, min, eqb, List, [], ◌∷◌, ◌++◌, length, get_or, take, Some, None, Ok, Err, Option, Result, sym, refl, ap, ◌∙◌, subst, inl, inr, add-one, arith}
 use native.Mathlib.Nat.{min-le_left}
 use Rattle.std.proofs.lemmas.List.{length-take, length-append}
 use Rattle.std.proofs.lemmas.Bool.{cases_Bool, eqb-true}
 use Rattle.lines.specs.declared.reader.LineFault.{LineFault}
-use Rattle.lines.specs.declared.reader.LineFault.TheVariants.{Form, Range}
+use Rattle.lines.specs.declared.reader.LineFault.TheVariants.{Range}
 use Rattle.lines.specs.Fields.{and_then, letter, line}
 use Rattle.lines.specs.Spelling.{spelled, InRange}
 use Rattle.lines.specs.Families.{Family, lookup, in_range, made, by_kind, reads, spells, OneSpelling}
 use Rattle.lines.specs.declared.reader.Limits.{Limits}
 use Rattle.lines.specs.Reading.{listed, read, unread}
-use Rattle.lines.proofs.Options.{some_same, none_some, err_ok, ok_same, and_then_some}
+use Rattle.lines.proofs.Options.{some_same, none_some, err_ok, ok_same}
 use Rattle.lines.proofs.Spelled.{Writable, line_written, line_is_written}
 
 -- a table of letters that agrees with the letter of each kind

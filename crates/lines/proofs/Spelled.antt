@@ -1,14 +1,12 @@
 -- A line has one spelling: what is read is what was written, and what was written is read.
-use Rattle.std.proofs.Common.{◌≡◌, ℕ, zero, suc, ◌+◌, ◌-◌, ◌*◌, ◌^◌, ◌<◌, ◌≤◌, min, Bool, true, false, cond, not, ◌&&◌, ◌||◌, eqb, ltb, leb, ◌⊎◌, List, [], ◌∷◌, ◌++◌, length, get_or, take, drop, Some, None, Ok, Err, decimal, Option, Result, sym, refl, ap, ◌∙◌, subst, inl, inr, append_assoc, arith, rules}
+use Rattle.std.proofs.Common.{◌≡◌, ℕ, zero, suc, ◌+◌, ◌^◌, ◌<◌, ◌≤◌, min, Bool, true, false, ◌&&◌, eqb, leb, List, [], ◌∷◌, ◌++◌, length, get_or, take, drop, Some, None, Ok, decimal, Option, sym, refl, ap, ◌∙◌, subst, inl, inr, append_assoc, arith, rules}
 use native.Mathlib.Nat.{min-le_left}
-use Rattle.std.proofs.lemmas.List.{nil_from_length, length-take, drop_at, take-append-drop, get_or-take, get_or_append_left}
-use Rattle.std.proofs.lemmas.Bool.{cases_Bool, cases_eq, cases_lt, both_ways, and_parts, leb-true, eqb-true, eqb-false, ltb-true, lt-ltb, le-leb, eq-eqb, ne_eqb, or_cases, not-true, true≢false}
+use Rattle.std.proofs.lemmas.List.{nil_from_length, length-take, drop_at, get_or-take}
+use Rattle.std.proofs.lemmas.Bool.{cases_Bool, cases_eq, and_parts, leb-true, eqb-true, eqb-false, ltb-true, lt-ltb, le-leb, eq-eqb, ne_eqb, not-true}
 use Rattle.std.proofs.lemmas.Str.Parse.{IsNumeralModel, numerals_by_fold}
 use Rattle.std.proofs.lemmas.Fmt.{digits_decimal, digits_value-decimal, decimal-digits_value, decimal_nonempty, first_decimal, decimal_digit}
-use Rattle.lines.specs.declared.reader.LineFault.{LineFault}
-use Rattle.lines.specs.declared.reader.LineFault.TheVariants.{Form, Range}
 use Rattle.lines.proofs.Options.{some_same, none_some, err_ok, ok_same, and_then_some}
-use Rattle.lines.specs.Fields.{digit, digits, value_after, plain, plain_by, up_to, number, past, and_then, field, with_first, fields, judged, line, Within}
+use Rattle.lines.specs.Fields.{digit, digits, value_after, plain, up_to, number, past, field, with_first, fields, judged, line, Within}
 use Rattle.lines.specs.Spelling.{spelled_fields, spelled, InRange}
 
 abbrev all_digits : List ℕ → Bool

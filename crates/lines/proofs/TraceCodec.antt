@@ -1,5 +1,5 @@
 -- Trace lines are such a family.
-use Rattle.std.proofs.Common.{◌≡◌, ℕ, ◌-◌, ◌^◌, ◌<◌, ◌≤◌, List, [], ◌∷◌, length, get_or, take, Some, None, refl, ap, arith}
+use Rattle.std.proofs.Common.{◌≡◌, ℕ, ◌≤◌, List, length, take, Some, refl, ap, arith}
 use Rattle.std.proofs.lemmas.List.{get_or-take}
 use Rattle.lines.specs.declared.trace.Kind.{Kind}
 use Rattle.lines.specs.declared.trace.Kind.TheVariants as kind

@@ -1,7 +1,7 @@
 -- A walk over a section's lines, step by step.
-use Rattle.std.proofs.Common.{◌≡◌, ℕ, zero, suc, ◌+◌, ◌<◌, ◌≤◌, List, [], ◌∷◌, length, Ok, Err, Result, sym, refl, ap, ◌∙◌, arith}
+use Rattle.std.proofs.Common.{◌≡◌, ℕ, zero, suc, ◌+◌, ◌<◌, ◌≤◌, List, [], ◌∷◌, length, Ok, Err, Result, refl, ap, ◌∙◌, arith}
 use Rattle.lines.specs.declared.refusal.LineRefusal.{LineRefusal}
-use Rattle.lines.specs.Walks.{goes_on, walk, walked}
+use Rattle.lines.specs.Walks.{goes_on, walk}
 
 module _ {S F : Type 0} (step : S → List ℕ → Result (S × List ℕ) F) (shorter : (s t : S) (bs rest : List ℕ) → step s bs ≡ Ok (t, rest) → length rest < length bs) where
   same_on : (o : Result (S × List ℕ) F) (n : ℕ) (f g : S → List ℕ → Result S (LineRefusal F)) → ((t : S) (rest : List ℕ) → o ≡ Ok (t, rest) → f t rest ≡ g t rest) → goes_on o n f ≡ goes_on o n g

@@ -1,5 +1,5 @@
 -- What the reader's calls answer, and what they leave to be read.
-use Rattle.std.specs.Prelude.{◌≡◌, ℕ, Bool, true, false, List, [], ◌∷◌, length, take, Some, None, Ok, Err, Option, Result, slice_set}
+use Rattle.std.specs.Prelude.{◌≡◌, ℕ, Bool, true, false, List, length, take, Some, None, Ok, Err, Option, Result, slice_set}
 use Rattle.std.specs.Option.{option_map}
 use Rattle.lines.specs.declared.reader.Field.{Field}
 use Rattle.lines.specs.declared.reader.Fields.{Fields}

@@ -1,5 +1,5 @@
 -- How a line is written.
-use Rattle.std.specs.Prelude.{◌≡◌, ℕ, ◌≤◌, List, [], ◌∷◌, ◌++◌, decimal}
+use Rattle.std.specs.Prelude.{ℕ, ◌≤◌, List, [], ◌∷◌, ◌++◌, decimal}
 
 -- each field is one space and its number; a line feed ends the line
 abbrev pub spelled_fields : List ℕ → List ℕ

@@ -1,5 +1,5 @@
 -- The lines of a trace, of n threads and l locations.
-use Rattle.std.specs.Prelude.{◌≡◌, ℕ, ◌-◌, List, [], ◌∷◌, Some, Option, slice_index}
+use Rattle.std.specs.Prelude.{ℕ, ◌-◌, List, [], ◌∷◌, Some, slice_index}
 use Rattle.lines.specs.declared.trace.Kind.{Kind}
 use Rattle.lines.specs.declared.trace.Kind.TheVariants as kind
 use Rattle.lines.specs.declared.trace.Line.{Line}

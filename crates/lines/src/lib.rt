@@ -1,4 +1,6 @@
 // The lines of a job file: how one is read, and the lines of a trace.
+#![tactic(auto)]
+
 pub mod reader;
 pub mod refusal;
 pub mod scope;

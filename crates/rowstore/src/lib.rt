@@ -1,4 +1,6 @@
 // The row store: each location's messages in order of their ends.
+#![tactic(auto)]
+
 mod entry;
 mod index;
 mod row;

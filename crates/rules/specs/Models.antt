@@ -1,5 +1,5 @@
 -- What a run stands for, with its language and its store left behind.
-use Rattle.std.specs.Prelude.{ℕ, Bool, false, List, [], ◌∷◌, length, take, set, replicate, slice_index_or, slice_set}
+use Rattle.std.specs.Prelude.{ℕ, Bool, false, List, [], ◌∷◌, length, take, replicate, slice_index_or, slice_set}
 use Rattle.languages.specs.declared.action.Action.TheVariants.{Ended}
 use Rattle.languages.specs.declared.action.Taking.TheVariants.{NotTaken}
 use Rattle.languages.specs.Behaviours.{Behaviour}

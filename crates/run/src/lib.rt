@@ -1,4 +1,6 @@
 // A run: threads of any language on any store, line by line.
+#![tactic(auto)]
+
 mod accesses;
 mod closing;
 mod log;

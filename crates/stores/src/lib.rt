@@ -1,4 +1,6 @@
 // Views, messages and the stores that keep them.
+#![tactic(auto)]
+
 pub mod flat;
 pub mod kept;
 pub mod message;

@@ -1,5 +1,7 @@
 // Judges the jobs of a pack on both stores, and prints the report on each.
 // The pack is standard input: each job behind a line `= NAME LENGTH`.
+#![tactic(auto)]
+
 use std::alloc::Global;
 use std::io;
 use std::io::{Read, Write};

@@ -1,5 +1,7 @@
 // Reads a job file from standard input, and prints the report on it.
 // Under a refusal it says in words what the number means, and shows the refused line; --report leaves that out.
+#![tactic(auto)]
+
 mod place;
 mod words;
 

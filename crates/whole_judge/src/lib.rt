@@ -1,4 +1,6 @@
 // Judges a job file, and writes the report.
+#![tactic(auto)]
+
 mod account;
 pub mod fault;
 pub mod head;

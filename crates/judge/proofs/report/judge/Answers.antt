@@ -1,4 +1,4 @@
-use Rattle.std.proofs.Common.{◌≡◌, ◌-◌, ◌≤◌, ◌++◌, length, replicate, Ok, Err, sym, refl, ap, ◌∙◌, le-ltb}
+use Rattle.std.proofs.Common.{length, replicate, Ok, Err, ap, ◌∙◌, le-ltb}
 use Rattle.judge.specs.Outcomes.{outcome_of}
 use Rattle.judge.specs.Reports.{report_text, report_on}
 use Rattle.judge.specs.Writing.{over}

@@ -1,6 +1,6 @@
-use Rattle.std.proofs.Common.{◌≡◌, ℕ, ◌+◌, ◌≤◌, List, [], ◌∷◌, length, set, sym, refl, ap, ◌∙◌, arith}
+use Rattle.std.proofs.Common.{◌≡◌, ℕ, ◌+◌, ◌≤◌, List, [], ◌∷◌, length, set, ap, ◌∙◌, arith}
 use Rattle.std.proofs.lemmas.List.{length-set}
-use Rattle.lines.specs.Spelling.{spelled_fields, spelled}
+use Rattle.lines.specs.Spelling.{spelled}
 use Rattle.judge.specs.Faults.{fault_number, fault_layer}
 use Rattle.judge.specs.Writing.{over}
 use Rattle.judge.proofs.Lengths.{fields_short, number_short, layer_short}

@@ -1,4 +1,4 @@
-use Rattle.std.proofs.Common.{◌≡◌, ◌+◌, ◌<◌, ◌≤◌, length, sym, refl, ap, ◌∙◌, arith}
+use Rattle.std.proofs.Common.{◌+◌, ◌<◌, length, sym, ap, ◌∙◌, arith}
 use Rattle.lines.specs.Families.{reads}
 use Rattle.lines.specs.TraceLines.{trace_lines}
 use Rattle.lines.proofs.Familiar.{was_read, reads_shorter}

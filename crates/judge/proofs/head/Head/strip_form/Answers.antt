@@ -1,4 +1,4 @@
-use Rattle.std.proofs.Common.{◌≡◌, length, sym, refl, ap, ◌∙◌, arith}
+use Rattle.std.proofs.Common.{length, ap, arith}
 use Rattle.lines.specs.Families.{reads}
 use Rattle.languages.specs.StripLines.{strip_lines}
 use Rattle.judge.specs.Outcomes.{outcome_of}

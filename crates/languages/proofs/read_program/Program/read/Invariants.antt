@@ -1,5 +1,5 @@
-use Rattle.std.proofs.Common.{◌≡◌, ◌+◌, ◌≤◌, List, [], length, take}
-use Rattle.lines.specs.Walks.{walk, walked}
+use Rattle.std.proofs.Common.{◌≡◌, ◌+◌, ◌≤◌, length, take}
+use Rattle.lines.specs.Walks.{walk}
 use Rattle.languages.specs.Programs.{program}
 use Rattle.languages.proofs.ProgramSteps.{program_step}
 use Rattle.languages.proofs.read_program.Program.read.Given as goal

@@ -1,10 +1,10 @@
-use Rattle.std.proofs.Common.{◌≡◌, ◌+◌, ◌-◌, ◌<◌, ◌≤◌, min, length, get_or, take, drop, Some, None, sym, refl, ap, ◌∙◌, arith}
+use Rattle.std.proofs.Common.{◌≡◌, ◌+◌, ◌-◌, ◌<◌, min, length, get_or, take, drop, Some, sym, refl, ap, ◌∙◌, arith}
 use Rattle.std.specs.Option.{option_map}
 use Rattle.lines.specs.Fields.{field, fields}
-use Rattle.lines.specs.Reading.{listed, ReadsAll}
+use Rattle.lines.specs.Reading.{listed}
 use Rattle.lines.proofs.Answered.{read_none, read_some}
 use Rattle.lines.proofs.Cuts.{take_cut}
-use Rattle.lines.proofs.Gathered.{both, alone, prepend, prepend_none, fields_more, fields_stop, fields_end, set_in_more, set_in_six, take_six}
+use Rattle.lines.proofs.Gathered.{prepend, prepend_none, fields_more, fields_stop, fields_end, set_in_more, set_in_six, take_six}
 use Rattle.lines.proofs.reader.Reader.fields.Goals as goal
 
 pub loop-k-init : goal.loop-k-init

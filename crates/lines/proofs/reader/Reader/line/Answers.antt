@@ -1,5 +1,5 @@
-use Rattle.std.proofs.Common.{◌≡◌, ◌<◌, ◌≤◌, ◌∷◌, length, get_or, take, drop, Some, None, Ok, Err, sym, refl, ap, ◌∙◌, subst, arith}
-use Rattle.lines.specs.Fields.{past, fields, line}
+use Rattle.std.proofs.Common.{◌<◌, length, take, drop, Some, sym, refl, ap, subst}
+use Rattle.lines.specs.Fields.{past, fields}
 use Rattle.lines.specs.Reading.{listed, ReadsAll, read, unread}
 use Rattle.lines.proofs.Answered.{passed, gathered}
 use Rattle.lines.proofs.Spelled.{fields_range, within_taken, line_from, not_empty}

@@ -1,5 +1,5 @@
-use Rattle.std.proofs.Common.{◌≡◌, ◌+◌, ◌<◌, ◌≤◌, false, ◌⊎◌, length, get_or, drop, Some, None, sym, refl, ap, ◌∙◌, inl, inr, arith}
-use Rattle.lines.specs.Fields.{digit, digits, plain_by}
+use Rattle.std.proofs.Common.{◌≡◌, ◌+◌, ◌<◌, ◌≤◌, false, ◌⊎◌, length, get_or, drop, sym, refl, ap, ◌∙◌, inl, inr, arith}
+use Rattle.lines.specs.Fields.{digit, plain_by}
 use Rattle.lines.proofs.Numbers.{read_on, read_on_more, digits_more, digits_end, number_found, number_none}
 use Rattle.lines.proofs.reader.Reader.number.Goals as goal
 use Rattle.lines.proofs.reader.Reader.number.Goals.{else-loop-n-test, then-loop-n-test+then-not-is_digit, then-n-eq0-via-then-n-eq0, then-n-eq0-via-else-n-eq0+then-not-is_plain}

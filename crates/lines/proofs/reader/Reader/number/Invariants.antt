@@ -1,4 +1,4 @@
-use Rattle.std.proofs.Common.{◌≡◌, ◌+◌, ◌-◌, ◌≤◌, length, drop, Some, None}
+use Rattle.std.proofs.Common.{◌≡◌, ◌+◌, ◌-◌, ◌≤◌, length, drop, Some}
 use Rattle.lines.specs.Fields.{digits}
 use Rattle.lines.proofs.Numbers.{read_on}
 use Rattle.lines.proofs.reader.Reader.number.Given as goal

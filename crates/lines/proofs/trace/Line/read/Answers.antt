@@ -1,8 +1,8 @@
-use Rattle.std.proofs.Common.{◌≡◌, ◌≤◌, Some, Ok, Err, sym, refl, ap, ◌∙◌, arith}
+use Rattle.std.proofs.Common.{◌≡◌, Some, Ok, Err, sym, ap, ◌∙◌, arith}
 use Rattle.std.proofs.lemmas.Result.{err_from_is_err_and}
 use Rattle.lines.specs.Fields.{and_then, letter}
 use Rattle.lines.specs.Families.{lookup}
-use Rattle.lines.specs.TraceLines.{trace_letters, trace_lines, TraceFits}
+use Rattle.lines.specs.TraceLines.{trace_letters, trace_lines}
 use Rattle.lines.proofs.Familiar.{one_spelling, refuses, answers}
 use Rattle.lines.proofs.TraceCodec.{trace_codec}
 use Rattle.lines.proofs.trace.Line.read.Goals as goal

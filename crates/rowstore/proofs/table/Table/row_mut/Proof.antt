@@ -1,5 +1,5 @@
 -- `row_mut` lends one row, and the whole follows it, for every R and N. Assumes `Logic`.
-use Rattle.std.proofs.Common.{◌≡◌, ℕ, zero, suc, ◌+◌, ◌*◌, ◌^◌, ◌<◌, ◌≤◌, List, [], ◌∷◌, length, get_or, set, sym, refl, ap, ◌∙◌, subst, not-suc-le-zero, mul-le-mul_right, one-mul, arith, length-set, w64, MutBor}
+use Rattle.std.proofs.Common.{◌≡◌, ℕ, zero, ◌+◌, ◌*◌, ◌^◌, ◌<◌, ◌≤◌, List, [], ◌∷◌, length, get_or, set, sym, refl, ap, ◌∙◌, subst, not-suc-le-zero, mul-le-mul_right, one-mul, arith, length-set, w64, MutBor}
 use seplogic.Ra.Ura.{Ura}
 use base.Fraction.{full_share}
 use mir.Syntax.{Fn, Args, ty_array, a_type, a_number, named}
@@ -29,7 +29,7 @@ use denote.ArrayMemory.{Array-apart, Array-whole}
 use denote.Index.{row, place, place_is, others, takes, puts}
 use denote.Plain.{uint_vals, uint_Tells}
 use denote.Ref.{MutRef, mut_vals, mut_Tells}
-use denote.Builtin.{usize, RefMutOf}
+use denote.Builtin.{usize}
 use denote.Signature.{plain, mut_ref_to}
 use denote.Steps.{nothing}
 use denote.Param.{param, layout, layouts, number, ArrayAt}
