@@ -64,8 +64,7 @@ fn put_refused(out: &mut [u8], refusal: Refusal) -> usize
 
 // Writes the report on a job file into the buffer, then zeros to its end, and answers the report's length.
 // A buffer under 2,400 bytes is not written, and the answer is 0.
-#[unsafe(no_mangle)]
-pub extern "C" fn judge(file: &[u8], report: &mut [u8]) -> usize
+pub fn judge(file: &[u8], report: &mut [u8]) -> usize
     ensures value { result ≡ answered file.now (length report.old) }
     ensures after { report.new ≡ left_in file.now report.old }
 {

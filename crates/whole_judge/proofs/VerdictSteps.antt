@@ -1,5 +1,5 @@
 -- The verdict on a file, put together.
-use Rattle.std.proofs.Common.{◌≡◌, ℕ, ◌+◌, ◌<◌, ◌≤◌, cond, ◌&&◌, ltb, leb, List, [], ◌∷◌, map, length, get_or, take, drop, Ok, Err, Result, sym, refl, ap, ◌∙◌, subst, arith, le-ltb}
+use Rattle.std.proofs.Common.{◌≡◌, ℕ, ◌+◌, ◌≤◌, cond, ◌&&◌, ltb, leb, List, [], ◌∷◌, map, length, get_or, take, drop, Ok, Err, Result, sym, refl, ap, ◌∙◌, subst, arith, le-ltb}
 use native.Mathlib.Nat.{min-le_right}
 use Rattle.std.proofs.lemmas.List.{length-take, length-drop, take-map, take-take, get_or-take}
 use Rattle.std.proofs.lemmas.Bool.{cond_both}

@@ -6,7 +6,7 @@ use Rattle.lines.specs.Families.{reads}
 use Rattle.whole_judge.specs.declared.fault.Fault.TheVariants.{Line, Sections}
 use Rattle.whole_judge.specs.declared.fault.Refusal.{Refusal}
 use Rattle.whole_judge.specs.declared.section.Section.{Section}
-use Rattle.whole_judge.specs.Jobs.{Job, job_lines, job_of}
+use Rattle.whole_judge.specs.Jobs.{Job, job_lines}
 use Rattle.whole_judge.specs.Sections.{section_lines, first_wrong}
 
 -- so many section lines more, after those that were read, and what follows them; n is the next line's number

@@ -1,5 +1,5 @@
 -- What a run has to be for its report to be short.
-use Rattle.std.specs.Prelude.{ℕ, ◌<◌, List, slice_index_or}
+use Rattle.std.specs.Prelude.{ℕ, ◌<◌, slice_index_or}
 use Rattle.stores.specs.Memory.{zero_message}
 use Rattle.rules.specs.Models.{Run}
 

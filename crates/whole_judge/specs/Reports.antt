@@ -4,7 +4,7 @@ use Rattle.lines.specs.Spelling.{spelled}
 use Rattle.stores.specs.declared.message.Message.{Message}
 use Rattle.stores.specs.declared.view.View.{View}
 use Rattle.stores.specs.Views.{at}
-use Rattle.rules.specs.Models.{Thread, Run}
+use Rattle.rules.specs.Models.{Run}
 use Rattle.run.specs.Reports.{owing_thread}
 use Rattle.whole_judge.specs.declared.fault.Refusal.{Refusal}
 use Rattle.whole_judge.specs.Faults.{fault_number, fault_layer}

@@ -1,5 +1,5 @@
 -- What is found of a job file.
-use Rattle.std.specs.Prelude.{◌≡◌, ℕ, ◌+◌, cond, List, [], ◌∷◌, map, length, take, Some, None, Ok, Err, Option, Result, nat_lt, slice_index_or}
+use Rattle.std.specs.Prelude.{ℕ, ◌+◌, cond, List, [], map, length, take, Some, None, Ok, Err, Option, Result, nat_lt, slice_index_or}
 use Rattle.lines.specs.declared.reader.LineFault.{LineFault}
 use Rattle.lines.specs.declared.refusal.LineRefusal.{LineRefusal}
 use Rattle.lines.specs.Families.{reads}
@@ -16,7 +16,7 @@ use Rattle.whole_judge.specs.declared.fault.Refusal.{Refusal}
 use Rattle.whole_judge.specs.declared.job.LanguageChoice.{LanguageChoice}
 use Rattle.whole_judge.specs.declared.job.LanguageChoice.TheVariants.{Registers, Strips}
 use Rattle.whole_judge.specs.declared.section.Section.{Section}
-use Rattle.whole_judge.specs.Heads.{and_then, Heading, heading}
+use Rattle.whole_judge.specs.Heads.{and_then, heading}
 use Rattle.whole_judge.specs.Programs.{cut, programs_after}
 use Rattle.whole_judge.specs.Traces.{Progress, trace_judged}
 

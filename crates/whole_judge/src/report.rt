@@ -58,8 +58,7 @@ fn judge_in<S: Store>(file: &[u8], store: S, report: &mut [u8]) -> usize
 
 // Writes the report on a job file into the buffer, then zeros to its end, and answers the report's length.
 // A buffer under 2,400 bytes is not written, and the answer is 0. The file is judged on the row store.
-#[unsafe(no_mangle)]
-pub extern "C" fn judge(file: &[u8], report: &mut [u8]) -> usize
+pub fn judge(file: &[u8], report: &mut [u8]) -> usize
     ensures value { result ≡ answered 64 file.now (length report.old) }
     ensures after { report.new ≡ left_in 64 file.now report.old }
     ensures law { 2400 ≤ length report.old → Reported file.now (take result report.new) }
@@ -68,8 +67,7 @@ pub extern "C" fn judge(file: &[u8], report: &mut [u8]) -> usize
 }
 
 // The same, judged on the flat store.
-#[unsafe(no_mangle)]
-pub extern "C" fn judge_flat(file: &[u8], report: &mut [u8]) -> usize
+pub fn judge_flat(file: &[u8], report: &mut [u8]) -> usize
     ensures value { result ≡ answered 64 file.now (length report.old) }
     ensures after { report.new ≡ left_in 64 file.now report.old }
     ensures law { 2400 ≤ length report.old → Reported file.now (take result report.new) }

@@ -1,7 +1,7 @@
-use Rattle.std.proofs.Common.{◌≡◌, ℕ, ◌+◌, ◌^◌, ◌<◌, ◌≤◌, List, [], ◌∷◌, length, IfSome, Some, None, Option, sym, ap, ◌∙◌, arith}
+use Rattle.std.proofs.Common.{ℕ, ◌+◌, ◌<◌, ◌≤◌, List, [], ◌∷◌, length, IfSome, Some, None, Option, ap, ◌∙◌, arith}
 use Rattle.lines.specs.Spelling.{spelled}
 use Rattle.stores.specs.declared.message.Message.{Message}
-use Rattle.whole_judge.specs.Reports.{owner, message_line}
+use Rattle.whole_judge.specs.Reports.{owner}
 use Rattle.whole_judge.specs.Writing.{over}
 use Rattle.whole_judge.proofs.Lengths.{fields_within}
 use Rattle.whole_judge.proofs.account.put_message.Goals as goal

@@ -1,4 +1,4 @@
-use Rattle.std.proofs.Common.{◌≡◌, ◌+◌, ◌*◌, ◌<◌, ◌≤◌, length, get_or, Option, sym, ap, ◌∙◌, subst, arith}
+use Rattle.std.proofs.Common.{◌≡◌, ◌+◌, ◌<◌, ◌≤◌, length, get_or, sym, ap, ◌∙◌, subst, arith}
 use Rattle.stores.specs.declared.message.Message.{Message}
 use Rattle.stores.specs.declared.kept.Kept.{Kept}
 use Rattle.stores.specs.Memory.{zero_message}
@@ -7,7 +7,7 @@ use Rattle.run.specs.Reports.{owing_thread}
 use Rattle.run.proofs.Nths.{nth_message}
 use Rattle.whole_judge.specs.Reports.{message_line}
 use Rattle.whole_judge.specs.Writing.{over}
-use Rattle.whole_judge.proofs.Texts.{none_written, one_written, all_written, still}
+use Rattle.whole_judge.proofs.Texts.{none_written, one_written, all_written}
 use Rattle.whole_judge.proofs.account.put_messages.Goals as goal
 
 pub loop-k-init : goal.loop-k-init

@@ -1,4 +1,4 @@
-use Rattle.std.proofs.Common.{◌≡◌, ◌+◌, ◌<◌, ◌≤◌, eqb, length, sym, refl, ap, ◌∙◌, arith}
+use Rattle.std.proofs.Common.{◌+◌, eqb, length, sym, refl, ◌∙◌}
 use Rattle.std.proofs.lemmas.List.{at_drop_all}
 use Rattle.whole_judge.specs.Sections.{first_wrong}
 use Rattle.whole_judge.proofs.HeadSteps.{wrong_stop, wrong_more, lies_within}

@@ -1,9 +1,9 @@
-use Rattle.std.proofs.Common.{◌≡◌, ◌+◌, ◌-◌, ◌<◌, [], ◌∷◌, ◌++◌, length, take, set, sym, refl, ap, ◌∙◌, arith}
+use Rattle.std.proofs.Common.{◌≡◌, ◌+◌, ◌-◌, [], ◌∷◌, ◌++◌, take, set, sym, refl, ap, ◌∙◌, arith}
 use Rattle.std.proofs.lemmas.List.{length-set, take_more_set}
 use Rattle.lines.specs.Families.{reads}
 use Rattle.lines.proofs.Familiar.{was_read, was_refused}
 use Rattle.whole_judge.specs.Sections.{section_lines}
-use Rattle.whole_judge.specs.Heads.{sections_from, ReadsSections}
+use Rattle.whole_judge.specs.Heads.{sections_from}
 use Rattle.whole_judge.proofs.HeadSteps.{sections_stop, sections_more}
 use Rattle.whole_judge.proofs.head.read_sections.Goals as goal
 

@@ -1,4 +1,4 @@
-use Rattle.std.proofs.Common.{◌≡◌, ◌-◌, length, take, drop, refl}
+use Rattle.std.proofs.Common.{◌-◌, length, take, drop, refl}
 use Rattle.whole_judge.proofs.Cuts.{cut_is}
 use Rattle.whole_judge.proofs.programs.cut_section.Goals as goal
 

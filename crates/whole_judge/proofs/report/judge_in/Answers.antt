@@ -1,4 +1,4 @@
-use Rattle.std.proofs.Common.{◌≡◌, ℕ, ◌-◌, ◌≤◌, List, ◌++◌, length, replicate, Ok, Err, Result, sym, refl, ap, ◌∙◌, subst, le-ltb}
+use Rattle.std.proofs.Common.{◌≡◌, ℕ, ◌-◌, List, ◌++◌, length, replicate, Ok, Err, Result, sym, ap, ◌∙◌, le-ltb}
 use Rattle.lines.proofs.Options.{err_ok, ok_same}
 use Rattle.whole_judge.specs.declared.fault.Refusal.{Refusal}
 use Rattle.whole_judge.specs.Traces.{Progress}

@@ -1,7 +1,6 @@
-use Rattle.std.proofs.Common.{◌≡◌, ℕ, ◌+◌, ◌^◌, ◌<◌, ◌≤◌, List, [], ◌∷◌, length, set, sym, ap, ◌∙◌, subst, arith}
+use Rattle.std.proofs.Common.{◌≡◌, ℕ, ◌+◌, ◌^◌, ◌<◌, ◌≤◌, List, [], ◌∷◌, length, ap, ◌∙◌, arith}
 use Rattle.std.proofs.lemmas.List.{length-set}
 use Rattle.lines.specs.Spelling.{spelled}
-use Rattle.whole_judge.specs.declared.fault.Refusal.{Refusal}
 use Rattle.whole_judge.specs.Faults.{fault_number}
 use Rattle.whole_judge.specs.Reports.{refused_text}
 use Rattle.whole_judge.specs.Writing.{over}

@@ -1,10 +1,9 @@
-use Rattle.std.proofs.Common.{◌≡◌, Ok, Err, sym, refl, ap, ◌∙◌}
+use Rattle.std.proofs.Common.{Err, ap, ◌∙◌}
 use Rattle.std.proofs.lemmas.Result.{err_from_is_err_and}
 use Rattle.lines.specs.Families.{reads}
 use Rattle.lines.specs.TraceLines.{trace_lines}
 use Rattle.lines.proofs.Familiar.{was_read, was_refused}
 use Rattle.run.specs.Models.{run_of}
-use Rattle.whole_judge.specs.declared.fault.Fault.TheVariants.{Line, Step}
 use Rattle.whole_judge.proofs.TraceSteps.{not_read, not_accepted, accepted}
 use Rattle.whole_judge.proofs.trace.take_line.Goals as goal
 

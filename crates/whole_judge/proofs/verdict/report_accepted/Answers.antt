@@ -1,4 +1,4 @@
-use Rattle.std.proofs.Common.{◌≡◌, ◌+◌, take, sym, ap, ◌∙◌}
+use Rattle.std.proofs.Common.{◌+◌, take, sym, ap}
 use Rattle.lines.specs.Families.{reads}
 use Rattle.languages.specs.RegisterLines.{register_lines}
 use Rattle.languages.specs.Registers.{register_start}

@@ -1,4 +1,4 @@
-use Rattle.std.proofs.Common.{◌≡◌, ◌+◌, ◌++◌, length, drop}
+use Rattle.std.proofs.Common.{◌≡◌, ◌+◌, length, drop}
 use Rattle.lines.specs.Spelling.{spelled_fields}
 use Rattle.whole_judge.specs.Writing.{over}
 use Rattle.whole_judge.proofs.write.put_fields.Given as goal

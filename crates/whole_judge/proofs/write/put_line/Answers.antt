@@ -1,5 +1,4 @@
-use Rattle.std.proofs.Common.{◌≡◌, ◌+◌, ◌≤◌, length, ◌∙◌, arith}
-use Rattle.std.proofs.lemmas.List.{length-set}
+use Rattle.std.proofs.Common.{◌∙◌, arith}
 use Rattle.lines.specs.Spelling.{spelled_fields}
 use Rattle.whole_judge.proofs.Overs.{over_cons}
 use Rattle.whole_judge.proofs.write.put_line.Goals as goal

@@ -1,7 +1,7 @@
-use Rattle.std.proofs.Common.{◌≡◌, ℕ, ◌+◌, ◌<◌, ◌≤◌, List, map, length, get_or, Ok, Err, sym, ap, ◌∙◌, subst, arith}
+use Rattle.std.proofs.Common.{◌≡◌, ℕ, ◌+◌, ◌≤◌, List, map, length, get_or, Ok, Err, sym, ap, ◌∙◌, subst, arith}
 use Rattle.std.proofs.lemmas.Result.{err_from_is_err_and}
 use Rattle.languages.specs.Behaviours.{Behaviour}
-use Rattle.rules.specs.Rules.{went, refused, made}
+use Rattle.rules.specs.Rules.{made}
 use Rattle.rules.specs.Models.{Run}
 use Rattle.run.specs.Models.{thread_of, run_of, tried}
 use Rattle.run.proofs.Moments.{count_is}
