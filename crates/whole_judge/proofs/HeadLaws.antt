@@ -2,7 +2,7 @@
 use Rattle.std.proofs.Common.{◌≡◌, ℕ, zero, suc, ◌+◌, ◌-◌, ◌≤◌, Bool, true, false, cond, List, [], ◌∷◌, ◌++◌, length, Some, None, Ok, Err, Option, Result, sym, refl, ap, ◌∙◌, subst, append_assoc, arith, eq-eqb, le-leb}
 use Rattle.std.proofs.lemmas.List.{append-nil}
 use Rattle.std.proofs.lemmas.Bool.{and_parts, eqb-true}
-use Rattle.std.specs.List.{AllByRecursion as All}
+use Rattle.std.specs.List.{AllByRecursion}
 use Rattle.lines.specs.declared.reader.LineFault.{LineFault}
 use Rattle.lines.specs.declared.refusal.LineRefusal.{LineRefusal}
 use Rattle.lines.specs.Families.{reads, spells, all_spelled}
@@ -23,7 +23,7 @@ record Read (c : ℕ) (ss : List Section) (bs : List ℕ) (out : List Section) (
   pub new : List Section
   pub whole : out ≡ ss ++ new
   pub many : length new ≡ c
-  pub fit : All SectionFits new
+  pub fit : AllByRecursion SectionFits new
   pub spelled : bs ≡ all_spelled section_lines new ++ rest
 
 section_then : (o : Result (Section × List ℕ) LineFault) (n : ℕ) (on : Section → List ℕ → Result (List Section × List ℕ) (LineRefusal LineFault)) (p : List Section × List ℕ) → and_section o n on ≡ Ok p → (s : Section) × (rest : List ℕ) × (o ≡ Ok (s, rest)) × (on s rest ≡ Ok p)
@@ -46,7 +46,7 @@ sections_were (suc c) n ss bs out rest e =
       spelled = s.0 ∙ ap (λ xs. spells section_lines t.0 ++ xs) r.spelled ∙ sym (append_assoc (spells section_lines t.0) (all_spelled section_lines r.new) rest);
     }
 
-sections_are : (new : List Section) (n : ℕ) (ss : List Section) (bs rest : List ℕ) → All SectionFits new → bs ≡ all_spelled section_lines new ++ rest → sections_from (length new) n ss bs ≡ Ok (ss ++ new, rest)
+sections_are : (new : List Section) (n : ℕ) (ss : List Section) (bs rest : List ℕ) → AllByRecursion SectionFits new → bs ≡ all_spelled section_lines new ++ rest → sections_from (length new) n ss bs ≡ Ok (ss ++ new, rest)
 sections_are [] n ss bs rest fit e = ap (λ x. Ok (ss, x)) e ∙ ap (λ x. Ok (x, rest)) (sym (append-nil ss))
 sections_are (s ∷ new) n ss bs rest fit e =
     let r : reads section_lines bs ≡ Ok (s, all_spelled section_lines new ++ rest) = is_read section_lines section_codec bs s (all_spelled section_lines new ++ rest) fit.0 (e ∙ append_assoc (spells section_lines s) (all_spelled section_lines new) rest) in
@@ -117,7 +117,7 @@ begins file h e =
       rest = d.1;
       spelled = s.0 ∙ ap (λ xs. spells job_lines j.0 ++ xs) (r.spelled ∙ ap (λ ss. all_spelled section_lines ss ++ d.1) (sym r.whole));
       job_fits = s.1;
-      sections_fit = subst (All SectionFits) (sym r.whole) r.fit;
+      sections_fit = subst (AllByRecursion SectionFits) (sym r.whole) r.fit;
       many = ap length r.whole ∙ r.many;
       tiles = tiles_some (length file - length d.1) d.0 j.0.threads (length file) (ap length r.whole ∙ r.many) t.0;
     })

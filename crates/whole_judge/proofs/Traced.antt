@@ -1,6 +1,6 @@
 -- A trace that is followed to its end is the spelling of lines, each accepted on the run that the ones before it led to.
 use Rattle.std.proofs.Common.{◌≡◌, ℕ, zero, suc, ◌+◌, ◌<◌, ◌≤◌, List, [], ◌∷◌, length, get_or, Ok, sym, refl, ap, ◌∙◌, subst, inl, inr, zero-add, arith}
-use Rattle.std.specs.List.{AllByRecursion as All}
+use Rattle.std.specs.List.{AllByRecursion}
 use Rattle.lines.specs.declared.trace.Line.{Line}
 use Rattle.lines.specs.Families.{all_spelled}
 use Rattle.lines.specs.TraceLines.{trace_lines, TraceFits}
@@ -62,7 +62,7 @@ count_back s (line ∷ lines) t c e =
 pub record Followed (n l : ℕ) (r : Run) (bs : List ℕ) (s : Progress) : Type 0 where
   pub lines : List Line
   pub spelled : bs ≡ all_spelled (trace_lines n l) lines
-  pub fit : All (TraceFits n l) lines
+  pub fit : AllByRecursion (TraceFits n l) lines
   pub accepted : Accepted r lines s.run
   pub count : s.count ≡ length lines
 

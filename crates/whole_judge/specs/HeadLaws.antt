@@ -1,6 +1,6 @@
 -- When a file has a head, in words of the file.
 use Rattle.std.specs.Prelude.{◌≡◌, ℕ, ◌+◌, ◌-◌, List, ◌++◌, length, Ok, Result}
-use Rattle.std.specs.List.{AllByRecursion as All}
+use Rattle.std.specs.List.{AllByRecursion}
 use Rattle.lines.specs.Families.{spells, all_spelled}
 use Rattle.whole_judge.specs.declared.fault.Refusal.{Refusal}
 use Rattle.whole_judge.specs.Jobs.{job_lines, JobFits}
@@ -12,7 +12,7 @@ pub record Begins (file : List ℕ) (h : Heading) : Type 0 where
   pub rest : List ℕ
   pub spelled : file ≡ spells job_lines h.job ++ (all_spelled section_lines h.sections ++ rest)
   pub job_fits : JobFits h.job
-  pub sections_fit : All SectionFits h.sections
+  pub sections_fit : AllByRecursion SectionFits h.sections
   pub many : length h.sections ≡ h.job.threads + 1
   pub tiles : Tiles (length file - length rest) h.sections (length file)
 

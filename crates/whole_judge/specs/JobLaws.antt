@@ -1,6 +1,6 @@
 -- What the report on a file says, in words of the file.
 use Rattle.std.specs.Prelude.{◌≡◌, ℕ, ◌≤◌, ◌⊎◌, List, [], ◌∷◌, map, length, take, slice_index_or}
-use Rattle.std.specs.List.{AllByRecursion as All}
+use Rattle.std.specs.List.{AllByRecursion}
 use Rattle.lines.specs.declared.trace.Line.{Line}
 use Rattle.lines.specs.Families.{Family, all_spelled}
 use Rattle.lines.specs.TraceLines.{trace_lines, TraceFits}
@@ -28,7 +28,7 @@ use Rattle.whole_judge.specs.Reports.{accepted_text}
 -- a section is the spelling of these lines, all in range, and nothing else
 pub record HoldsLines {K A : Type 0} (F : Family K A) (Fits : A → Type 0) (file : List ℕ) (s : Section) (lines : List A) : Type 0 where
   pub spelled : cut file s ≡ all_spelled F lines
-  pub fit : All Fits lines
+  pub fit : AllByRecursion Fits lines
 
 -- each section has the lines of a program, at most 64
 abbrev pub HoldPrograms : {K A : Type 0} → Family K A → (A → Type 0) → List ℕ → List Section → List (List A) → Type 0
