@@ -5,8 +5,7 @@ ghost use Rattle.std.specs.Prelude.{◌≡◌, ◌≤◌, length, take};
 ghost use Rattle.whole_judge.specs.JobLaws.{Reported};
 ghost use Rattle.whole_judge.specs.Reports.{answered, left_in};
 
-use whole_judge::report::judge as judge_on_rows;
-use whole_judge::report::judge_flat as judge_on_flat;
+use whole_judge::report::{judge as judge_on_rows, judge_flat as judge_on_flat};
 
 // Writes the report on a job file into the buffer, then zeros to its end, and answers the report's length.
 // A buffer under 2,400 bytes is not written, and the answer is 0. The file is judged on the row store.
