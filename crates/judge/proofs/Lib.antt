@@ -1,10 +1,1 @@
-pub mod JobCodec
-pub mod SectionCodec
-pub mod HeadSteps
-pub mod HeadLaws
-pub mod Overs
-pub mod Cuts
-pub mod ProgramsRead
 pub mod TraceSteps
-pub mod FormSteps
-pub mod Lengths

@@ -5,12 +5,11 @@ use Rattle.lines.specs.Families.{reads}
 use Rattle.lines.specs.TraceLines.{trace_lines}
 use Rattle.lines.proofs.Options.{err_ok, ok_same}
 use Rattle.lines.proofs.Familiar.{reads_shorter}
-use Rattle.lines.proofs.TraceCodec.{trace_codec}
-use Rattle.judge.specs.declared.fault.Fault.{Fault}
+use Rattle.lines.specs.TraceCodec.{trace_codec}
 use Rattle.judge.specs.Traces.{counts}
 
 module _ (n l : ℕ) (few : n ≤ 4) (small : l ≤ 8) where
-  abbrev pub trace_step : ℕ → List ℕ → Result (ℕ × List ℕ) Fault
+  abbrev pub trace_step : ℕ → List ℕ → Result (ℕ × List ℕ) LineFault
   trace_step k bs = counts k (reads (trace_lines n l) bs)
 
   counts_shorter : {A : Type 0} (k m most : ℕ) (o : Result (A × List ℕ) LineFault) (rest : List ℕ) → ((a : A) (after : List ℕ) → o ≡ Ok (a, after) → length after < most) → counts k o ≡ Ok (m, rest) → length rest < most

@@ -1,19 +1,29 @@
 -- The report.
-use Rattle.std.specs.Prelude.{ℕ, ◌+◌, ◌-◌, cond, List, [], ◌∷◌, ◌++◌, length, replicate, Ok, Err, Result, nat_lt}
+use Rattle.std.specs.Prelude.{ℕ, List, [], ◌∷◌, ◌++◌, Ok, Err, Result}
 use Rattle.lines.specs.Spelling.{spelled}
-use Rattle.judge.specs.declared.fault.Refusal.{Refusal}
-use Rattle.judge.specs.Faults.{fault_number, fault_layer}
-use Rattle.judge.specs.Outcomes.{Counts, judged_form}
+use Rattle.jobs.specs.declared.fault.FileFault.{FileFault}
+use Rattle.jobs.specs.declared.fault.Refusal.{Refusal}
+use Rattle.jobs.specs.Faults.{fault_number, fault_layer}
+use Rattle.jobs.specs.Reports.{said}
+use Rattle.jobs.specs.Texts.{texts, answer, left}
+use Rattle.judge.specs.declared.outcome.Form.{Form}
+use Rattle.judge.specs.Outcomes.{judged_form}
 
--- s i k for each program, from thread i on
-abbrev pub programs_text : ℕ → List ℕ → List ℕ
-programs_text i [] = []
-programs_text i (k ∷ ks) = spelled 115 (i ∷ k ∷ []) ++ programs_text (i + 1) ks
+-- s i k for each program
+abbrev pub programs_text : List ℕ → List ℕ
+programs_text ks = texts (λ i k. spelled 115 (i ∷ k ∷ [])) 0 ks
 
--- OK n, or NO with number, layer, section and line
-abbrev pub report_text : Result Counts Refusal → List ℕ
-report_text (Ok c) = (79 ∷ spelled 75 (c.trace ∷ [])) ++ programs_text 0 c.programs
-report_text (Err r) = 78 ∷ spelled 79 (fault_number r.fault ∷ fault_layer r.fault ∷ r.section ∷ r.line ∷ [])
+-- OK n, then the programs
+abbrev pub accepted_text : Form → List ℕ
+accepted_text form = (79 ∷ spelled 75 (form.trace ∷ [])) ++ programs_text form.programs
+
+-- the report where the file is accepted, its refusal where not
+abbrev pub told : Result Form (Refusal FileFault) → Result (List ℕ) (Refusal FileFault)
+told (Ok form) = Ok (accepted_text form)
+told (Err r) = Err r
+
+abbrev pub report_text : Result Form (Refusal FileFault) → List ℕ
+report_text o = said fault_number fault_layer (told o)
 
 -- the report on a file
 abbrev pub report_on : List ℕ → List ℕ
@@ -21,8 +31,8 @@ report_on file = report_text (judged_form file)
 
 -- what a call answers, by the length of its buffer: nothing where that is under 2,400
 abbrev pub answered : List ℕ → ℕ → ℕ
-answered file n = cond (nat_lt n 2400) 0 (length (report_on file))
+answered file n = answer (report_on file) n
 
 -- and what it leaves there: the report, then zeros to the last byte
 abbrev pub left_in : List ℕ → List ℕ → List ℕ
-left_in file buffer = cond (nat_lt (length buffer) 2400) buffer (report_on file ++ replicate (length buffer - length (report_on file)) 0)
+left_in file buffer = left (report_on file) buffer

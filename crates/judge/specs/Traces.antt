@@ -5,14 +5,12 @@ use Rattle.lines.specs.declared.refusal.LineRefusal.{LineRefusal}
 use Rattle.lines.specs.Families.{reads}
 use Rattle.lines.specs.TraceLines.{trace_lines}
 use Rattle.lines.specs.Walks.{walked}
-use Rattle.judge.specs.declared.fault.Fault.{Fault}
-use Rattle.judge.specs.declared.fault.Fault.TheVariants.{Line}
 
 -- one line more
-abbrev pub counts : {A : Type 0} → ℕ → Result (A × List ℕ) LineFault → Result (ℕ × List ℕ) Fault
-counts n (Err f) = Err (Line f)
+abbrev pub counts : {A : Type 0} → ℕ → Result (A × List ℕ) LineFault → Result (ℕ × List ℕ) LineFault
+counts n (Err f) = Err f
 counts n (Ok p) = Ok (n + 1, p.1)
 
 -- how many lines a trace has, of n threads and l locations
-abbrev pub trace_lines_read : ℕ → ℕ → List ℕ → Result ℕ (LineRefusal Fault)
+abbrev pub trace_lines_read : ℕ → ℕ → List ℕ → Result ℕ (LineRefusal LineFault)
 trace_lines_read n l bs = walked (λ k xs. counts k (reads (trace_lines n l) xs)) 0 bs

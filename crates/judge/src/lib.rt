@@ -1,12 +1,7 @@
-// Judges a job file, and writes the report.
+// Judges the form of a job file, and writes the report.
 #![tactic(auto)]
 
 pub mod fault;
-pub mod head;
-pub mod job;
 pub mod outcome;
-pub mod programs;
 pub mod report;
-pub mod section;
 mod trace;
-mod write;

@@ -1,96 +1,70 @@
 // What is found of a job file.
-ghost use Rattle.std.specs.Prelude.{◌≡◌, ℕ, ◌≤◌, length, take};
-ghost use Rattle.lines.specs.Families.{reads};
-ghost use Rattle.languages.specs.RegisterLines.{register_lines};
-ghost use Rattle.languages.specs.StripLines.{strip_lines};
-ghost use Rattle.judge.specs.Outcomes.{with_trace, read_as, outcome_of, judged_form};
+ghost use Rattle.std.specs.Prelude.{◌≡◌, ℕ, ◌≤◌, map, length, take};
+ghost use Rattle.languages.specs.Programs.{program_lines};
+ghost use Rattle.judge.specs.Outcomes.{with_trace, judged_form};
 
-use crate::fault::{Fault, Refusal};
-use crate::head::Head;
-use crate::job::LanguageChoice;
-use crate::programs::cut_section;
+use crate::fault::Refusal;
 use crate::trace::read_trace;
+use bounded::Bounded;
+use jobs::head::Head;
+pub use jobs::head::MOST_FILE;
+use jobs::job::LanguageChoice;
+use languages::program::ProgramLine;
+use languages::read_program::Program;
 use languages::registers::RegisterLine;
 use languages::strips::StripLine;
 
-pub const MOST_FILE: usize = 65535;
-
 // The lines of a file whose form is right: those of the trace, and of each program.
-#[derive(Clone, Copy)]
+#[derive(Clone, Drop)]
 pub struct Form {
     pub trace: usize,
-    pub threads: usize,
-    pub programs: [usize; 4],
+    pub programs: Bounded<usize, 4>,
 }
 
-impl Head {
-    // The form of the trace, after that of the programs, of which the lengths are given.
-    fn with_trace(&self, file: &[u8], programs: [usize; 4]) -> Result<Form, Refusal>
-        ensures { outcome_of result ≡ with_trace file.now self.now.job.scope.threads self.now.job.scope.locations self.now.sections (take self.now.job.scope.threads programs) }
-    {
-        let scope = self.job.scope;
-        let threads = scope.threads() as usize;
-        match read_trace(cut_section(file, self.sections[threads]), scope) {
-            Err(refusal) => Err(Refusal {
-                fault: refusal.fault,
-                section: scope.threads() + 1,
-                line: refusal.line,
-            }),
-            Ok(trace) => Ok(Form {
-                trace,
-                threads,
-                programs,
-            }),
-        }
+// How many lines each program has.
+fn counts<I: ProgramLine>(programs: &[Program<I>]) -> Bounded<usize, 4>
+    requires { length programs.now ≤ 4 }
+    ensures { result ≡ map length (map program_lines programs.now) }
+{
+    let mut counts = Bounded::new(0);
+    for program in programs {
+        // never full: there are four at most
+        let _ = counts.push(program.lines().len());
     }
+    counts
+}
 
-    fn register_form(&self, file: &[u8]) -> Result<Form, Refusal>
-        ensures { outcome_of result ≡ read_as (reads (register_lines self.now.job.scope.locations)) file.now self.now.job.scope.threads self.now.job.scope.locations self.now.sections }
-    {
-        let p = self.programs::<RegisterLine>(file)?;
-        self.with_trace(
-            file,
-            [
-                p[0].lines().len(),
-                p[1].lines().len(),
-                p[2].lines().len(),
-                p[3].lines().len(),
-            ],
-        )
-    }
-
-    fn strip_form(&self, file: &[u8]) -> Result<Form, Refusal>
-        ensures { outcome_of result ≡ read_as (reads (strip_lines self.now.job.scope.locations)) file.now self.now.job.scope.threads self.now.job.scope.locations self.now.sections }
-    {
-        let p = self.programs::<StripLine>(file)?;
-        self.with_trace(
-            file,
-            [
-                p[0].lines().len(),
-                p[1].lines().len(),
-                p[2].lines().len(),
-                p[3].lines().len(),
-            ],
-        )
-    }
+// The form of a job whose programs were read. Each language reads its own: generic code that makes an array
+// of generic programs owes a bound on the array's size.
+fn form_with<I: ProgramLine>(
+    head: &Head,
+    file: &[u8],
+    programs: &[Program<I>; 4],
+) -> Result<Form, Refusal>
+    ensures { result ≡ with_trace file.now head.now.job.scope.threads head.now.job.scope.locations head.now.sections (map length (map program_lines (take head.now.job.scope.threads programs.now))) }
+{
+    let scope = head.job.scope;
+    let trace = read_trace(head.trace(file), scope).map_err(|refusal| Refusal::in_section(
+        refusal,
+        scope.threads() + 1,
+    ))?;
+    Ok(Form {
+        trace,
+        programs: counts(&programs[..scope.threads() as usize]),
+    })
 }
 
 impl Form {
     // Reads the whole file.
     pub fn read(file: &[u8]) -> Result<Form, Refusal>
-        ensures { outcome_of result ≡ judged_form file.now }
+        ensures { result ≡ judged_form file.now }
     {
-        if file.len() > MOST_FILE {
-            return Err(Refusal {
-                fault: Fault::FileSize,
-                section: 0,
-                line: 0,
-            });
-        }
-        let head = Head::read(file)?;
+        let head = Head::of_file(file)?;
         match head.job.language {
-            LanguageChoice::Registers => head.register_form(file),
-            LanguageChoice::Strips => head.strip_form(file),
+            LanguageChoice::Registers => {
+                form_with(&head, file, &head.programs::<RegisterLine>(file)?)
+            }
+            LanguageChoice::Strips => form_with(&head, file, &head.programs::<StripLine>(file)?),
         }
     }
 }

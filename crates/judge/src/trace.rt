@@ -2,14 +2,14 @@
 ghost use Rattle.std.specs.Prelude.{◌≡◌, ◌≤◌, length};
 ghost use Rattle.judge.specs.Traces.{trace_lines_read};
 
-use crate::fault::Fault;
-use lines::reader::Reader;
+use lines::family::Spelled;
+use lines::reader::{LineFault, Reader};
 use lines::refusal::LineRefusal;
 use lines::scope::Scope;
 use lines::trace::Line;
 
 // Reads lines to the section's end, and answers how many there are.
-pub(crate) fn read_trace(section: &[u8], scope: Scope) -> Result<usize, LineRefusal<Fault>>
+pub(crate) fn read_trace(section: &[u8], scope: Scope) -> Result<usize, LineRefusal<LineFault>>
     ensures { result ≡ trace_lines_read scope.threads scope.locations section.now }
 {
     let mut reader = Reader::new(section);
@@ -21,7 +21,7 @@ pub(crate) fn read_trace(section: &[u8], scope: Scope) -> Result<usize, LineRefu
         match Line::read(&mut reader, scope) {
             Err(fault) => {
                 break Err(LineRefusal {
-                    fault: fault.into(),
+                    fault,
                     line: count + 1,
                 });
             }

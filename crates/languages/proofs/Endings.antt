@@ -1,7 +1,7 @@
 -- Threads that have ended, in both languages.
 use Rattle.std.proofs.Common.{◌≡◌, ℕ, ◌+◌, ◌≤◌, List, [], ◌∷◌, length, Some, None, Option, refl, ap, ◌∙◌, arith}
 use Rattle.std.proofs.lemmas.Option.{slice_get_past}
-use Rattle.languages.specs.Endings.{StaysEnded, EndsWithin}
+use Rattle.languages.specs.Endings.{StaysEnded}
 use Rattle.languages.specs.Meanings.{Meaning, behaviour, if_in_range, line_at, means_at}
 use Rattle.languages.specs.Strips.{StripState, strip_means}
 use Rattle.languages.specs.Strips as strips
@@ -23,7 +23,13 @@ module _ {State : Type 0} (means : State → Meaning State) (stays : (s : State)
   stays_ended s [] more e = at_end s more e
   stays_ended s (v ∷ vs) more e = stays_ended ((means s).goes_on v) vs more e
 
--- no line of a strip is the end, so an ended thread has no line
+-- with no line a state stays, and so it does where no line is the end
+module _ {State Line : Type 0} (line_means : State → Line → Meaning State) (stays : (s : State) (l : Line) (v : ℕ) → (line_means s l).next ≡ Ended → (line_means s l).goes_on v ≡ s) where
+  stays_at : (s : State) (o : Option Line) (v : ℕ) → (means_at line_means s o).next ≡ Ended → (means_at line_means s o).goes_on v ≡ s
+  stays_at s None v e = refl
+  stays_at s (Some l) v e = stays s l v e
+
+-- no line of a strip is the end
 strip_line : (t : StripState) (l : StripLine) (v : ℕ) → (strips.line_means t l).next ≡ Ended → (strips.line_means t l).goes_on v ≡ t
 strip_line t (strip.Read x v o) w e = cc
 strip_line t (strip.Store x v o) w e = cc
@@ -31,12 +37,8 @@ strip_line t (strip.FetchAdd x v o p) w e = cc
 strip_line t (strip.Fence k) w e = cc
 strip_line t (strip.Print v) w e = cc
 
-strip_at : (t : StripState) (o : Option StripLine) (v : ℕ) → (means_at strips.line_means t o).next ≡ Ended → (means_at strips.line_means t o).goes_on v ≡ t
-strip_at t None v e = refl
-strip_at t (Some l) v e = strip_line t l v e
-
 strip_here : (t : StripState) (v : ℕ) → (strip_means t).next ≡ Ended → (strip_means t).goes_on v ≡ t
-strip_here t = strip_at t (line_at strips.in_range t.program t.line)
+strip_here t = stays_at strips.line_means strip_line t (line_at strips.in_range t.program t.line)
 
 pub strip_stays_ended : (t : StripState) → StaysEnded (behaviour strip_means t)
 strip_stays_ended = stays_ended strip_means strip_here
@@ -50,12 +52,9 @@ strip_passes t (Some (strip.FetchAdd x w o p)) v vs some later = later
 strip_passes t (Some (strip.Fence k)) v vs some later = later
 strip_passes t (Some (strip.Print w)) v vs some later = later
 
-strip_ends_from : (vs : List ℕ) (t : StripState) → length t.program ≤ t.line + length vs → (behaviour strip_means t vs).next ≡ Ended
-strip_ends_from [] t h = ap (λ o. (means_at strips.line_means t (if_in_range strips.in_range o)).next) (slice_get_past t.program t.line (omega arith))
-strip_ends_from (v ∷ vs) t h = strip_passes t (line_at strips.in_range t.program t.line) v vs refl (strip_ends_from vs (strips.passed t) (omega arith))
-
-pub strip_ends : (p : List StripLine) → EndsWithin (length p) (strips.strip_start p)
-strip_ends p vs h = strip_ends_from vs (record { program = p; line = 0 }) (omega arith)
+pub strip_ends : (vs : List ℕ) (t : StripState) → length t.program ≤ t.line + length vs → (behaviour strip_means t vs).next ≡ Ended
+strip_ends [] t h = ap (λ o. (means_at strips.line_means t (if_in_range strips.in_range o)).next) (slice_get_past t.program t.line (omega arith))
+strip_ends (v ∷ vs) t h = strip_passes t (line_at strips.in_range t.program t.line) v vs refl (strip_ends vs (strips.passed t) (omega arith))
 
 -- no line of a register program is the end
 register_line : (t : RegisterState) (l : RegisterLine) (v : ℕ) → (registers.line_means t l).next ≡ Ended → (registers.line_means t l).goes_on v ≡ t
@@ -70,9 +69,5 @@ register_line t (register.CompareExchange r x s u o p) w e = cc
 register_line t (register.Fence k) w e = cc
 register_line t (register.Print s) w e = cc
 
-register_at : (t : RegisterState) (o : Option RegisterLine) (v : ℕ) → (means_at registers.line_means t o).next ≡ Ended → (means_at registers.line_means t o).goes_on v ≡ t
-register_at t None v e = refl
-register_at t (Some l) v e = register_line t l v e
-
 pub register_stays_ended : (t : RegisterState) → StaysEnded (behaviour register_means t)
-register_stays_ended = stays_ended register_means (λ t. register_at t (line_at registers.in_range t.program t.line))
+register_stays_ended = stays_ended register_means (λ t. stays_at registers.line_means register_line t (line_at registers.in_range t.program t.line))

@@ -2,10 +2,10 @@
 use Rattle.std.proofs.Common.{◌≡◌, ℕ, ◌+◌, ◌<◌, ◌≤◌, ltb, List, [], ◌∷◌, ◌++◌, length, Ok, sym, refl, ap, ◌∙◌, subst, inl, inr, append_assoc, arith, lt-ltb}
 use Rattle.std.proofs.lemmas.List.{append-nil, length_push}
 use Rattle.std.proofs.lemmas.Bool.{cases_Bool, ltb-true}
-use Rattle.std.specs.List.{AllByRecursion as All}
+use Rattle.std.specs.List.{AllByRecursion}
 use Rattle.lines.specs.Families.{Family, reads, all_spelled}
 use Rattle.lines.proofs.Options.{err_ok, ok_same}
-use Rattle.lines.proofs.Familiar.{Codec}
+use Rattle.lines.specs.Codecs.{Codec}
 use Rattle.lines.proofs.Sections.{Chain, Takes, walked_lines, lines_walked}
 use Rattle.languages.specs.declared.read_program.ProgramFault.{ProgramFault}
 use Rattle.languages.specs.Programs.{with_line, program}
@@ -13,7 +13,7 @@ use Rattle.languages.specs.Programs.{with_line, program}
 -- the bytes are the spelling of a program's lines
 pub record SpellsProgram {K I : Type 0} (F : Family K I) (Fits : I → Type 0) (bs : List ℕ) (lines : List I) : Type 0 where
   pub spelled : bs ≡ all_spelled F lines
-  pub fit : All Fits lines
+  pub fit : AllByRecursion Fits lines
   pub short : length lines ≤ 64
 
 -- one line more, where there is room for it

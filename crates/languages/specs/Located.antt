@@ -1,5 +1,5 @@
 -- Both languages name locations below 8 only.
-use Rattle.std.specs.Prelude.{◌≡◌, ℕ, Bool, true, false, cond, List, [], ◌∷◌, Some, None, Option, refl}
+use Rattle.std.specs.Prelude.{◌≡◌, ℕ, Bool, true, false, if◌then◌else◌, List, [], ◌∷◌, Some, None, Option, refl}
 use Rattle.std.proofs.Common.{ltb-true}
 use Rattle.std.specs.List.{slice_get}
 use Rattle.languages.specs.Meanings.{Meaning, behaviour, if_in_range, means_at, Located}
@@ -18,7 +18,7 @@ behaviour_located means each s [] = each s
 behaviour_located means each s (v ∷ vs) = behaviour_located means each ((means s).goes_on v) vs
 
 module _ {State Line : Type 0} (in_range : Line → Bool) (line_means : State → Line → Meaning State) (each : (s : State) (l : Line) → in_range l ≡ true → Located (line_means s l).next) where
-  tested : (s : State) (l : Line) (b : Bool) → in_range l ≡ b → Located (means_at line_means s (cond b (Some l) None)).next
+  tested : (s : State) (l : Line) (b : Bool) → in_range l ≡ b → Located (means_at line_means s (if b then Some l else None)).next
   tested s l true e = each s l e
   tested s l false e = tt
 

@@ -1,5 +1,5 @@
 -- What each state of a language means, and the behaviour that follows from it.
-use Rattle.std.specs.Prelude.{ℕ, ◌<◌, Bool, cond, List, [], ◌∷◌, Some, None, Option}
+use Rattle.std.specs.Prelude.{ℕ, ◌<◌, Bool, if◌then◌else◌, List, [], ◌∷◌, Some, None, Option}
 use Rattle.std.specs.List.{slice_get}
 use Rattle.languages.specs.Behaviours.{Behaviour}
 use Rattle.languages.specs.declared.action.Action.{Action}
@@ -33,7 +33,7 @@ ended s = acting Ended s
 -- a line that is not in range counts as none
 abbrev pub if_in_range : {Line : Type 0} → (Line → Bool) → Option Line → Option Line
 if_in_range in_range None = None
-if_in_range in_range (Some l) = cond (in_range l) (Some l) None
+if_in_range in_range (Some l) = if in_range l then Some l else None
 
 -- line n of a program, counted from 0: there is none past the last line
 abbrev pub line_at : {Line : Type 0} → (Line → Bool) → List Line → ℕ → Option Line

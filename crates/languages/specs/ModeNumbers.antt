@@ -1,7 +1,6 @@
 -- Modes and fences have one number each.
 use Rattle.std.specs.Prelude.{◌≡◌, ℕ, ◌≤◌, refl}
-use Rattle.std.proofs.Common.{sym, inl, inr, arith, eq-eqb, ne_eqb}
-use Rattle.std.proofs.lemmas.Bool.{cases_eq}
+use Rattle.std.proofs.Common.{arith}
 use Rattle.languages.specs.declared.action.ReadMode.{ReadMode}
 use Rattle.languages.specs.declared.action.ReadMode.TheVariants as read
 use Rattle.languages.specs.declared.action.WriteMode.{WriteMode}
@@ -25,19 +24,10 @@ same_fence_kind fence.Both = refl
 same_fence_kind fence.Sequential = refl
 
 pub read_back : (v : ℕ) → v ≤ 1 → read_number (read_mode v) ≡ v
-read_back v h = elim (cases_eq v 0) [ inl z ↦ rw (eq-eqb v 0 z) (sym z) | inr n ↦ rw (ne_eqb v 0 n) (omega arith) ]
+read_back v h = grind arith
 
 pub write_back : (v : ℕ) → v ≤ 1 → write_number (write_mode v) ≡ v
-write_back v h = elim (cases_eq v 0) [ inl z ↦ rw (eq-eqb v 0 z) (sym z) | inr n ↦ rw (ne_eqb v 0 n) (omega arith) ]
+write_back v h = grind arith
 
 pub fence_back : (v : ℕ) → v ≤ 3 → fence_number (fence_kind v) ≡ v
-fence_back v h = elim (cases_eq v 0) [
-  | inl z ↦ rw (eq-eqb v 0 z) (sym z)
-  | inr n ↦ elim (cases_eq v 1) [
-    | inl z ↦ rw (ne_eqb v 0 n, eq-eqb v 1 z) (sym z)
-    | inr m ↦ elim (cases_eq v 2) [
-      | inl z ↦ rw (ne_eqb v 0 n, ne_eqb v 1 m, eq-eqb v 2 z) (sym z)
-      | inr o ↦ rw (ne_eqb v 0 n, ne_eqb v 1 m, ne_eqb v 2 o) (omega arith)
-    ]
-  ]
-]
+fence_back v h = grind arith

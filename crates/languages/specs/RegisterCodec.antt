@@ -1,16 +1,14 @@
 -- Register lines are such a family.
-use Rattle.std.specs.Prelude.{◌≡◌, ℕ, ◌≤◌, List, length, take, Some, slice_index, refl}
-use Rattle.std.proofs.Common.{ap, arith}
-use Rattle.std.proofs.lemmas.List.{get_or-take}
+use Rattle.std.specs.Prelude.{◌≡◌, ℕ, ◌≤◌, List, Some, slice_index, refl}
+use Rattle.std.proofs.Common.{arith}
 use Rattle.languages.specs.declared.read_registers.RegisterKind.{RegisterKind}
 use Rattle.languages.specs.declared.read_registers.RegisterKind.TheVariants as kind
 use Rattle.languages.specs.declared.registers.RegisterLine.{RegisterLine}
 use Rattle.languages.specs.declared.registers.RegisterLine.TheVariants as line
 use Rattle.lines.specs.Families.{lookup}
 use Rattle.lines.specs.Spelling.{InRange}
-use Rattle.lines.proofs.Options.{some_same}
-use Rattle.lines.proofs.Familiar.{Codec, gets_all, makes_of}
-use Rattle.lines.proofs.Spelled.{Writable, range_at}
+use Rattle.lines.specs.Codecs.{Codec, Writable, gets_all, whole_codec}
+use Rattle.lines.proofs.Spelled.{range_at}
 use Rattle.languages.specs.RegisterLines.{register_letters, register_letter, register_limits, register_make, register_kind, register_numbers, register_lines, RegisterFits}
 use Rattle.languages.specs.ModeNumbers.{same_read_mode, same_write_mode, same_fence_kind, read_back, write_back, fence_back}
 
@@ -75,25 +73,6 @@ module _ (l : ℕ) (small : l ≤ 8) where
   register_made_numbers kind.Fence vs h = rw (fence_back (slice_index vs 0) (range_at (register_limits l kind.Fence) vs h 0 (omega arith))) (gets_all (register_limits l kind.Fence) vs h)
   register_made_numbers kind.Print vs h = gets_all (register_limits l kind.Print) vs h
 
-  register_enough : (k : RegisterKind) (m : ℕ) (vs : List ℕ) → length (register_limits l k) ≤ m → register_make k (take m vs) ≡ register_make k vs
-  register_enough kind.Constant m vs h = rw (get_or-take m vs 0 0 (omega arith), get_or-take m vs 1 0 (omega arith))
-  register_enough kind.Add m vs h = rw (get_or-take m vs 0 0 (omega arith), get_or-take m vs 1 0 (omega arith), get_or-take m vs 2 0 (omega arith))
-  register_enough kind.Equal m vs h = rw (get_or-take m vs 0 0 (omega arith), get_or-take m vs 1 0 (omega arith), get_or-take m vs 2 0 (omega arith))
-  register_enough kind.Branch m vs h = rw (get_or-take m vs 0 0 (omega arith), get_or-take m vs 1 0 (omega arith))
-  register_enough kind.Load m vs h = rw (get_or-take m vs 0 0 (omega arith), get_or-take m vs 1 0 (omega arith), get_or-take m vs 2 0 (omega arith))
-  register_enough kind.Store m vs h = rw (get_or-take m vs 0 0 (omega arith), get_or-take m vs 1 0 (omega arith), get_or-take m vs 2 0 (omega arith))
-  register_enough kind.FetchAdd m vs h = rw (get_or-take m vs 0 0 (omega arith), get_or-take m vs 1 0 (omega arith), get_or-take m vs 2 0 (omega arith), get_or-take m vs 3 0 (omega arith), get_or-take m vs 4 0 (omega arith))
-  register_enough kind.CompareExchange m vs h = rw (get_or-take m vs 0 0 (omega arith), get_or-take m vs 1 0 (omega arith), get_or-take m vs 2 0 (omega arith), get_or-take m vs 3 0 (omega arith), get_or-take m vs 4 0 (omega arith), get_or-take m vs 5 0 (omega arith))
-  register_enough kind.Fence m vs h = rw (get_or-take m vs 0 0 (omega arith))
-  register_enough kind.Print m vs h = rw (get_or-take m vs 0 0 (omega arith))
-
   pub register_codec : Codec (register_lines l) (RegisterFits l)
   register_codec =
-      record {
-        writable = register_writable;
-        found = register_found;
-        right = (refl, (refl, (refl, (refl, (refl, (refl, (refl, (refl, (refl, (refl, tt))))))))));
-        writes = λ a fits. (fits, ap Some (register_written a));
-        makes = λ k vs a h e. makes_of (register_limits l) register_make register_kind register_numbers register_made_kind register_made_numbers k vs a h (some_same e);
-        enough = λ k m vs h. ap Some (register_enough k m vs h);
-      }
+      whole_codec register_letters (register_limits l) register_make register_letter register_kind register_numbers register_writable register_found (refl, (refl, (refl, (refl, (refl, (refl, (refl, (refl, (refl, (refl, tt)))))))))) register_written register_made_kind register_made_numbers

@@ -1,5 +1,5 @@
 -- What a register program means.
-use Rattle.std.specs.Prelude.{ℕ, ◌+◌, ◌%◌, Bool, true, cond, List, replicate, ◌==◌, nat_lt, slice_index, slice_set}
+use Rattle.std.specs.Prelude.{ℕ, ◌+◌, ◌%◌, Bool, true, if◌then◌else◌, List, replicate, ◌==◌, nat_lt, slice_index, slice_set}
 use Rattle.languages.specs.Behaviours.{Behaviour}
 use Rattle.languages.specs.Meanings.{Meaning, behaviour, acting, reading, line_at, means_at}
 use Rattle.languages.specs.declared.action.Action.TheVariants as action
@@ -34,12 +34,12 @@ put t r v = record { program = t.program; line = t.line + 1; registers = slice_s
 abbrev pub line_means : RegisterState → RegisterLine → Meaning RegisterState
 line_means t (Constant r v) = acting action.Silent (put t r v)
 line_means t (Add r s u) = acting action.Silent (put t r ((holds t s + holds t u) % 65536))
-line_means t (Equal r s u) = acting action.Silent (put t r (cond (holds t s == holds t u) 1 0))
-line_means t (Branch r k) = acting action.Silent (cond (holds t r == 0) (passed t) (jumped t k))
+line_means t (Equal r s u) = acting action.Silent (put t r (if holds t s == holds t u then 1 else 0))
+line_means t (Branch r k) = acting action.Silent (if holds t r == 0 then passed t else jumped t k)
 line_means t (Load r x o) = reading (action.Read x o) (λ _. OnlyRead) (put t r)
 line_means t (Store x s o) = acting (action.Write x (holds t s) o) (passed t)
 line_means t (FetchAdd r x s o p) = reading (action.Update x o p) (λ v. Replaced ((v + holds t s) % 65536)) (put t r)
-line_means t (CompareExchange r x s u o p) = reading (action.Update x o p) (λ v. cond (v == holds t s) (Replaced (holds t u)) OnlyRead) (put t r)
+line_means t (CompareExchange r x s u o p) = reading (action.Update x o p) (λ v. if v == holds t s then Replaced (holds t u) else OnlyRead) (put t r)
 line_means t (Fence k) = acting (action.Fence k) (passed t)
 line_means t (Print s) = acting (action.Print (holds t s)) (passed t)
 

@@ -1,16 +1,14 @@
 -- Strip lines are such a family.
-use Rattle.std.specs.Prelude.{◌≡◌, ℕ, ◌≤◌, List, length, take, Some, slice_index, refl}
-use Rattle.std.proofs.Common.{ap, arith}
-use Rattle.std.proofs.lemmas.List.{get_or-take}
+use Rattle.std.specs.Prelude.{◌≡◌, ℕ, ◌≤◌, List, Some, slice_index, refl}
+use Rattle.std.proofs.Common.{arith}
 use Rattle.languages.specs.declared.read_strips.StripKind.{StripKind}
 use Rattle.languages.specs.declared.read_strips.StripKind.TheVariants as kind
 use Rattle.languages.specs.declared.strips.StripLine.{StripLine}
 use Rattle.languages.specs.declared.strips.StripLine.TheVariants as line
 use Rattle.lines.specs.Families.{lookup}
 use Rattle.lines.specs.Spelling.{InRange}
-use Rattle.lines.proofs.Options.{some_same}
-use Rattle.lines.proofs.Familiar.{Codec, gets_all, makes_of}
-use Rattle.lines.proofs.Spelled.{Writable, range_at}
+use Rattle.lines.specs.Codecs.{Codec, Writable, gets_all, whole_codec}
+use Rattle.lines.proofs.Spelled.{range_at}
 use Rattle.languages.specs.StripLines.{strip_letters, strip_letter, strip_limits, strip_make, strip_kind, strip_numbers, strip_lines, StripFits}
 use Rattle.languages.specs.ModeNumbers.{same_read_mode, same_write_mode, same_fence_kind, read_back, write_back, fence_back}
 
@@ -50,20 +48,6 @@ module _ (l : ℕ) (small : l ≤ 8) where
   strip_made_numbers kind.Fence vs h = rw (fence_back (slice_index vs 0) (range_at (strip_limits l kind.Fence) vs h 0 (omega arith))) (gets_all (strip_limits l kind.Fence) vs h)
   strip_made_numbers kind.Print vs h = gets_all (strip_limits l kind.Print) vs h
 
-  strip_enough : (k : StripKind) (m : ℕ) (vs : List ℕ) → length (strip_limits l k) ≤ m → strip_make k (take m vs) ≡ strip_make k vs
-  strip_enough kind.Read m vs h = rw (get_or-take m vs 0 0 (omega arith), get_or-take m vs 1 0 (omega arith), get_or-take m vs 2 0 (omega arith))
-  strip_enough kind.Store m vs h = rw (get_or-take m vs 0 0 (omega arith), get_or-take m vs 1 0 (omega arith), get_or-take m vs 2 0 (omega arith))
-  strip_enough kind.FetchAdd m vs h = rw (get_or-take m vs 0 0 (omega arith), get_or-take m vs 1 0 (omega arith), get_or-take m vs 2 0 (omega arith), get_or-take m vs 3 0 (omega arith))
-  strip_enough kind.Fence m vs h = rw (get_or-take m vs 0 0 (omega arith))
-  strip_enough kind.Print m vs h = rw (get_or-take m vs 0 0 (omega arith))
-
   pub strip_codec : Codec (strip_lines l) (StripFits l)
   strip_codec =
-      record {
-        writable = strip_writable;
-        found = strip_found;
-        right = (refl, (refl, (refl, (refl, (refl, tt)))));
-        writes = λ a fits. (fits, ap Some (strip_written a));
-        makes = λ k vs a h e. makes_of (strip_limits l) strip_make strip_kind strip_numbers strip_made_kind strip_made_numbers k vs a h (some_same e);
-        enough = λ k m vs h. ap Some (strip_enough k m vs h);
-      }
+      whole_codec strip_letters (strip_limits l) strip_make strip_letter strip_kind strip_numbers strip_writable strip_found (refl, (refl, (refl, (refl, (refl, tt))))) strip_written strip_made_kind strip_made_numbers

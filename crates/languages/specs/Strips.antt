@@ -1,5 +1,5 @@
 -- What a strip program means: its lines run straight through.
-use Rattle.std.specs.Prelude.{ℕ, ◌+◌, ◌%◌, Bool, true, cond, List, ◌==◌, nat_lt}
+use Rattle.std.specs.Prelude.{ℕ, ◌+◌, ◌%◌, Bool, true, if◌then◌else◌, List, ◌==◌, nat_lt}
 use Rattle.languages.specs.Behaviours.{Behaviour}
 use Rattle.languages.specs.Meanings.{Meaning, behaviour, acting, reading, line_at, means_at}
 use Rattle.languages.specs.declared.action.Action.TheVariants as action
@@ -19,7 +19,7 @@ passed t = record { program = t.program; line = t.line + 1 }
 
 -- what a thread means at each line
 abbrev pub line_means : StripState → StripLine → Meaning StripState
-line_means t (Read x v o) = reading (action.Read x o) (λ w. cond (w == v) OnlyRead NotTaken) (λ _. passed t)
+line_means t (Read x v o) = reading (action.Read x o) (λ w. if w == v then OnlyRead else NotTaken) (λ _. passed t)
 line_means t (Store x v o) = acting (action.Write x v o) (passed t)
 line_means t (FetchAdd x v o p) = reading (action.Update x o p) (λ w. Replaced ((w + v) % 65536)) (λ _. passed t)
 line_means t (Fence k) = acting (action.Fence k) (passed t)

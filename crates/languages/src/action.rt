@@ -1,18 +1,18 @@
 // What a thread does next.
 
-#[derive(Clone, Copy)]
+#[derive(Clone, Copy, PartialEq, Eq, Debug)]
 pub enum ReadMode {
     Relaxed,
     Acquire,
 }
 
-#[derive(Clone, Copy)]
+#[derive(Clone, Copy, PartialEq, Eq, Debug)]
 pub enum WriteMode {
     Relaxed,
     Release,
 }
 
-#[derive(Clone, Copy)]
+#[derive(Clone, Copy, PartialEq, Eq, Debug)]
 pub enum FenceKind {
     Acquire,
     Release,
@@ -20,7 +20,7 @@ pub enum FenceKind {
     Sequential,
 }
 
-#[derive(Clone, Copy)]
+#[derive(Clone, Copy, PartialEq, Eq, Debug)]
 pub enum Action {
     Silent,
     Read {
@@ -47,7 +47,7 @@ pub enum Action {
 }
 
 // What a thread says of a value that it could read.
-#[derive(Clone, Copy)]
+#[derive(Clone, Copy, PartialEq, Eq, Debug)]
 pub enum Taking {
     NotTaken,
     OnlyRead,

@@ -25,6 +25,7 @@ pub trait Language: Sized + Drop {
     fn go_on(&mut self, value: u16)
         ensures { behaves self.new ≡ after (behaves self.old) value };
 
+    // A method, since a bound `Copy` would ask more of a language.
     fn copy(&self) -> Self
         ensures { behaves result ≡ behaves self.now };
 }

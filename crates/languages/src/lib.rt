@@ -2,6 +2,7 @@
 #![tactic(auto)]
 
 pub mod action;
+mod current;
 pub mod language;
 pub mod modes;
 pub mod program;

@@ -1,36 +1,52 @@
 // The numbers of modes and fences in program lines.
-ghost use Rattle.std.specs.Prelude.{◌≡◌};
+ghost use Rattle.std.specs.Prelude.{◌≤◌};
+ghost use Rattle.std.specs.Result.{OkIff};
 ghost use Rattle.languages.specs.Modes.{read_mode, write_mode, fence_kind};
 
 use crate::action::{FenceKind, ReadMode, WriteMode};
+use lines::reader::LineFault;
 
-pub(crate) fn read_mode(number: u32) -> ReadMode
-    ensures { result ≡ read_mode number }
-{
-    if number == 0 {
-        ReadMode::Relaxed
-    } else {
-        ReadMode::Acquire
+// An impl for each type, since each has values of its own.
+impl TryFrom<u32> for ReadMode {
+    type Error = LineFault;
+
+    ghost try_from_gives = { λ number mode. OkIff mode (number ≤ 1) (read_mode number) };
+
+    fn try_from(number: u32) -> Result<ReadMode, LineFault> {
+        match number {
+            0 => Ok(ReadMode::Relaxed),
+            1 => Ok(ReadMode::Acquire),
+            _ => Err(LineFault::Range),
+        }
     }
 }
 
-pub(crate) fn write_mode(number: u32) -> WriteMode
-    ensures { result ≡ write_mode number }
-{
-    if number == 0 {
-        WriteMode::Relaxed
-    } else {
-        WriteMode::Release
+impl TryFrom<u32> for WriteMode {
+    type Error = LineFault;
+
+    ghost try_from_gives = { λ number mode. OkIff mode (number ≤ 1) (write_mode number) };
+
+    fn try_from(number: u32) -> Result<WriteMode, LineFault> {
+        match number {
+            0 => Ok(WriteMode::Relaxed),
+            1 => Ok(WriteMode::Release),
+            _ => Err(LineFault::Range),
+        }
     }
 }
 
-pub(crate) fn fence_kind(number: u32) -> FenceKind
-    ensures { result ≡ fence_kind number }
-{
-    match number {
-        0 => FenceKind::Acquire,
-        1 => FenceKind::Release,
-        2 => FenceKind::Both,
-        _ => FenceKind::Sequential,
+impl TryFrom<u32> for FenceKind {
+    type Error = LineFault;
+
+    ghost try_from_gives = { λ number kind. OkIff kind (number ≤ 3) (fence_kind number) };
+
+    fn try_from(number: u32) -> Result<FenceKind, LineFault> {
+        match number {
+            0 => Ok(FenceKind::Acquire),
+            1 => Ok(FenceKind::Release),
+            2 => Ok(FenceKind::Both),
+            3 => Ok(FenceKind::Sequential),
+            _ => Err(LineFault::Range),
+        }
     }
 }

@@ -10,9 +10,11 @@ use crate::action::FenceKind;
 use crate::program::ProgramLine;
 use crate::registers::RegisterLine;
 use crate::strips::StripLine;
+use lines::family::Spelled;
 use lines::reader::{LineFault, Reader};
 use lines::scope::Scope;
 
+// An impl each, since one for all `Spelled` lines would leave no other crate an impl of its own.
 impl ProgramLine for RegisterLine {
     ghost reads = { λ l bs. family_reads (register_lines l) bs };
 

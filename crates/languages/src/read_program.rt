@@ -1,24 +1,41 @@
 // How a program is read from its section.
 ghost use Rattle.std.specs.Prelude.{◌≡◌, ℕ, ◌≤◌, []};
-ghost use Rattle.languages.specs.Programs.{program_lines, lines_of, program};
+ghost use Rattle.languages.specs.Programs.{program_lines, lines_of, program, with_line, Adds};
+ghost use Rattle.languages.specs.declared.read_program.ProgramFault.TheVariants.{Line, TooMany};
 
 use crate::program::{MOST_LINES, ProgramLine};
+use bounded::{Bounded, Full};
 use lines::reader::{LineFault, Reader};
 use lines::refusal::LineRefusal;
 use lines::scope::Scope;
 
 // Why a program line is refused.
-#[derive(Clone, Copy)]
+#[derive(Clone, Copy, PartialEq, Eq, Debug)]
 pub enum ProgramFault {
     Line(LineFault),
     // there are 64 lines before it
     TooMany,
 }
 
-#[derive(Clone, Copy)]
+impl From<LineFault> for ProgramFault {
+    ghost from_gives = { λ fault r. r ≡ Line fault };
+
+    fn from(fault: LineFault) -> ProgramFault {
+        ProgramFault::Line(fault)
+    }
+}
+
+impl From<Full> for ProgramFault {
+    ghost from_gives = { λ _ r. r ≡ TooMany };
+
+    fn from(_full: Full) -> ProgramFault {
+        ProgramFault::TooMany
+    }
+}
+
+#[derive(Clone, Drop)]
 pub struct Program<I> {
-    pub lines: [I; 64],
-    pub len: usize,
+    lines: Bounded<I, MOST_LINES>,
 }
 
 impl<I: ProgramLine> Program<I> {
@@ -26,8 +43,7 @@ impl<I: ProgramLine> Program<I> {
         ensures { program_lines result ≡ [] }
     {
         Program {
-            lines: [I::filler(); 64],
-            len: 0,
+            lines: Bounded::new(I::filler()),
         }
     }
 
@@ -35,39 +51,30 @@ impl<I: ProgramLine> Program<I> {
     pub fn lines(&self) -> &[I]
         ensures { result.now ≡ program_lines self.now }
     {
-        let all = &self.lines[..];
-        let count = self.len.min(all.len());
-        &all[0..count]
+        self.lines.as_slice()
+    }
+
+    // Reads one line more, if there is room for it.
+    fn read_line(&mut self, reader: &mut Reader, scope: Scope) -> Result<(), ProgramFault>
+        ensures { Adds (with_line (program_lines self.old) (I.ProgramLine.reads scope.locations reader.old.rest.now)) result (program_lines self.new) reader.new.rest.now }
+    {
+        let line = I::read_line(reader, scope)?;
+        self.lines.push(line)?;
+        Ok(())
     }
 
     // Reads lines to the section's end.
     pub fn read(section: &[u8], scope: Scope) -> Result<Program<I>, LineRefusal<ProgramFault>>
         ensures { lines_of result ≡ program (I.ProgramLine.reads scope.locations) section.now }
     {
-        let mut lines = [I::filler(); 64];
-        let mut len = 0;
+        let mut program = Program::empty();
         let mut reader = Reader::new(section);
         while reader.left() > 0 {
-            let line = len + 1;
-            match I::read_line(&mut reader, scope) {
-                Err(fault) => {
-                    return Err(LineRefusal {
-                        fault: ProgramFault::Line(fault),
-                        line,
-                    });
-                }
-                Ok(read) => {
-                    if len == MOST_LINES {
-                        return Err(LineRefusal {
-                            fault: ProgramFault::TooMany,
-                            line,
-                        });
-                    }
-                    lines[len] = read;
-                    len += 1;
-                }
+            let line = program.lines.len() + 1;
+            if let Err(fault) = program.read_line(&mut reader, scope) {
+                return Err(LineRefusal { fault, line });
             }
         }
-        Ok(Program { lines, len })
+        Ok(program)
     }
 }

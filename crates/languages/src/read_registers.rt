@@ -1,18 +1,17 @@
 // How register lines are read.
-ghost use Rattle.std.specs.Prelude.{◌≡◌, ℕ};
-ghost use Rattle.lines.specs.Fields.{Within};
-ghost use Rattle.lines.specs.Families.{lookup, reads, OneSpelling};
-ghost use Rattle.lines.specs.Reading.{listed, read, unread};
-ghost use Rattle.languages.specs.RegisterLines.{register_letters, register_limits, register_make, register_lines, RegisterFits};
+ghost use Rattle.languages.specs.RegisterLines.{register_lines, RegisterFits};
+ghost use Rattle.languages.specs.declared.registers.RegisterLine.{RegisterLine};
+ghost use Rattle.languages.specs.RegisterCodec.{register_codec};
 
-use crate::modes::{fence_kind, read_mode, write_mode};
+use crate::action::{FenceKind, ReadMode, WriteMode};
 use crate::registers::RegisterLine;
 use lines::MOST_VALUE;
-use lines::reader::{Limits, LineFault, Reader};
+use lines::family::Spelled;
+use lines::reader::Numbers;
 use lines::scope::Scope;
 
 #[derive(Clone, Copy)]
-enum RegisterKind {
+pub enum RegisterKind {
     Constant,
     Add,
     Equal,
@@ -25,114 +24,107 @@ enum RegisterKind {
     Print,
 }
 
-fn kind_of(letter: char) -> Option<RegisterKind>
-    ensures { result ≡ lookup register_letters letter }
-{
-    match letter {
-        'C' => Some(RegisterKind::Constant),
-        'A' => Some(RegisterKind::Add),
-        'Q' => Some(RegisterKind::Equal),
-        'B' => Some(RegisterKind::Branch),
-        'L' => Some(RegisterKind::Load),
-        'S' => Some(RegisterKind::Store),
-        'U' => Some(RegisterKind::FetchAdd),
-        'K' => Some(RegisterKind::CompareExchange),
-        'F' => Some(RegisterKind::Fence),
-        'P' => Some(RegisterKind::Print),
-        _ => None,
+impl Spelled for RegisterLine {
+    type Kind = RegisterKind;
+
+    type Scope = Scope;
+
+    ghost Shown = { RegisterLine };
+
+    ghost shown = { λ a. a };
+
+    ghost family = { λ s. register_lines s.locations };
+
+    ghost Fits = { λ s. RegisterFits s.locations };
+
+    ghost codec = { λ s. register_codec s.locations s.some_locations.1 };
+
+    fn kind_of(letter: char) -> Option<RegisterKind> {
+        match letter {
+            'C' => Some(RegisterKind::Constant),
+            'A' => Some(RegisterKind::Add),
+            'Q' => Some(RegisterKind::Equal),
+            'B' => Some(RegisterKind::Branch),
+            'L' => Some(RegisterKind::Load),
+            'S' => Some(RegisterKind::Store),
+            'U' => Some(RegisterKind::FetchAdd),
+            'K' => Some(RegisterKind::CompareExchange),
+            'F' => Some(RegisterKind::Fence),
+            'P' => Some(RegisterKind::Print),
+            _ => None,
+        }
     }
-}
 
-fn limits(kind: RegisterKind, scope: Scope) -> Limits
-    ensures { listed result ≡ register_limits scope.locations kind }
-{
-    let last = (scope.locations() - 1) as u32;
-    let (count, most) = match kind {
-        RegisterKind::Constant => (2, [7, MOST_VALUE, 0, 0, 0, 0]),
-        RegisterKind::Add => (3, [7, 7, 7, 0, 0, 0]),
-        RegisterKind::Equal => (3, [7, 7, 7, 0, 0, 0]),
-        RegisterKind::Branch => (2, [7, 64, 0, 0, 0, 0]),
-        RegisterKind::Load => (3, [7, last, 1, 0, 0, 0]),
-        RegisterKind::Store => (3, [last, 7, 1, 0, 0, 0]),
-        RegisterKind::FetchAdd => (5, [7, last, 7, 1, 1, 0]),
-        RegisterKind::CompareExchange => (6, [7, last, 7, 7, 1, 1]),
-        RegisterKind::Fence => (1, [3, 0, 0, 0, 0, 0]),
-        RegisterKind::Print => (1, [7, 0, 0, 0, 0, 0]),
-    };
-    Limits { count, most }
-}
-
-fn line_of(kind: RegisterKind, numbers: [u32; 6], scope: Scope) -> RegisterLine
-    requires { Within 0 (register_limits scope.locations kind) numbers }
-    ensures { result ≡ register_make kind numbers }
-{
-    match kind {
-        RegisterKind::Constant => RegisterLine::Constant {
-            register: numbers[0] as u8,
-            value: numbers[1] as u16,
-        },
-        RegisterKind::Add => RegisterLine::Add {
-            register: numbers[0] as u8,
-            left: numbers[1] as u8,
-            right: numbers[2] as u8,
-        },
-        RegisterKind::Equal => RegisterLine::Equal {
-            register: numbers[0] as u8,
-            left: numbers[1] as u8,
-            right: numbers[2] as u8,
-        },
-        RegisterKind::Branch => RegisterLine::Branch {
-            register: numbers[0] as u8,
-            line: numbers[1] as u8,
-        },
-        RegisterKind::Load => RegisterLine::Load {
-            register: numbers[0] as u8,
-            location: numbers[1] as u8,
-            mode: read_mode(numbers[2]),
-        },
-        RegisterKind::Store => RegisterLine::Store {
-            location: numbers[0] as u8,
-            register: numbers[1] as u8,
-            mode: write_mode(numbers[2]),
-        },
-        RegisterKind::FetchAdd => RegisterLine::FetchAdd {
-            register: numbers[0] as u8,
-            location: numbers[1] as u8,
-            addend: numbers[2] as u8,
-            read: read_mode(numbers[3]),
-            write: write_mode(numbers[4]),
-        },
-        RegisterKind::CompareExchange => RegisterLine::CompareExchange {
-            register: numbers[0] as u8,
-            location: numbers[1] as u8,
-            expected: numbers[2] as u8,
-            desired: numbers[3] as u8,
-            read: read_mode(numbers[4]),
-            write: write_mode(numbers[5]),
-        },
-        RegisterKind::Fence => RegisterLine::Fence {
-            kind: fence_kind(numbers[0]),
-        },
-        RegisterKind::Print => RegisterLine::Print {
-            register: numbers[0] as u8,
-        },
+    fn limits(kind: RegisterKind, scope: Scope) -> Numbers {
+        let last = u32::from(scope.locations() - 1);
+        match kind {
+            RegisterKind::Constant => Numbers::from_slice(&[7, MOST_VALUE], 0),
+            RegisterKind::Add | RegisterKind::Equal => Numbers::from_slice(&[7, 7, 7], 0),
+            RegisterKind::Branch => Numbers::from_slice(&[7, 64], 0),
+            RegisterKind::Load => Numbers::from_slice(&[7, last, 1], 0),
+            RegisterKind::Store => Numbers::from_slice(&[last, 7, 1], 0),
+            RegisterKind::FetchAdd => Numbers::from_slice(&[7, last, 7, 1, 1], 0),
+            RegisterKind::CompareExchange => Numbers::from_slice(&[7, last, 7, 7, 1, 1], 0),
+            RegisterKind::Fence => Numbers::from_slice(&[3], 0),
+            RegisterKind::Print => Numbers::from_slice(&[7], 0),
+        }
     }
-}
 
-impl RegisterLine {
-    // Reads the line in front. A line that is refused is not passed.
-    pub fn read(reader: &mut Reader, scope: Scope) -> Result<RegisterLine, LineFault>
-        ensures value { result ≡ read (reads (register_lines scope.locations) reader.old.rest.now) }
-        ensures left { reader.new.rest.now ≡ unread (reads (register_lines scope.locations) reader.old.rest.now) reader.old.rest.now }
-        ensures spelling { OneSpelling (register_lines scope.locations) (RegisterFits scope.locations) reader.old.rest.now result reader.new.rest.now }
-    {
-        let Some(letter) = reader.letter() else {
-            return Err(LineFault::Form);
-        };
-        let Some(kind) = kind_of(letter) else {
-            return Err(LineFault::Form);
-        };
-        let numbers = reader.line(limits(kind, scope))?;
-        Ok(line_of(kind, numbers, scope))
+    fn make(kind: RegisterKind, numbers: &[u32]) -> Option<RegisterLine> {
+        match (kind, numbers) {
+            (RegisterKind::Constant, [register, value]) => Some(RegisterLine::Constant {
+                register: u8::try_from(*register).ok()?,
+                value: u16::try_from(*value).ok()?,
+            }),
+            (RegisterKind::Add, [register, left, right]) => Some(RegisterLine::Add {
+                register: u8::try_from(*register).ok()?,
+                left: u8::try_from(*left).ok()?,
+                right: u8::try_from(*right).ok()?,
+            }),
+            (RegisterKind::Equal, [register, left, right]) => Some(RegisterLine::Equal {
+                register: u8::try_from(*register).ok()?,
+                left: u8::try_from(*left).ok()?,
+                right: u8::try_from(*right).ok()?,
+            }),
+            (RegisterKind::Branch, [register, line]) => Some(RegisterLine::Branch {
+                register: u8::try_from(*register).ok()?,
+                line: u8::try_from(*line).ok()?,
+            }),
+            (RegisterKind::Load, [register, location, mode]) => Some(RegisterLine::Load {
+                register: u8::try_from(*register).ok()?,
+                location: u8::try_from(*location).ok()?,
+                mode: ReadMode::try_from(*mode).ok()?,
+            }),
+            (RegisterKind::Store, [location, register, mode]) => Some(RegisterLine::Store {
+                location: u8::try_from(*location).ok()?,
+                register: u8::try_from(*register).ok()?,
+                mode: WriteMode::try_from(*mode).ok()?,
+            }),
+            (RegisterKind::FetchAdd, [register, location, addend, read, write]) => {
+                Some(RegisterLine::FetchAdd {
+                    register: u8::try_from(*register).ok()?,
+                    location: u8::try_from(*location).ok()?,
+                    addend: u8::try_from(*addend).ok()?,
+                    read: ReadMode::try_from(*read).ok()?,
+                    write: WriteMode::try_from(*write).ok()?,
+                })
+            }
+            (RegisterKind::CompareExchange, [register, location, expected, desired, read, write]) =>
+                Some(RegisterLine::CompareExchange {
+                    register: u8::try_from(*register).ok()?,
+                    location: u8::try_from(*location).ok()?,
+                    expected: u8::try_from(*expected).ok()?,
+                    desired: u8::try_from(*desired).ok()?,
+                    read: ReadMode::try_from(*read).ok()?,
+                    write: WriteMode::try_from(*write).ok()?,
+                }),
+            (RegisterKind::Fence, [kind]) => Some(RegisterLine::Fence {
+                kind: FenceKind::try_from(*kind).ok()?,
+            }),
+            (RegisterKind::Print, [register]) => Some(RegisterLine::Print {
+                register: u8::try_from(*register).ok()?,
+            }),
+            _ => None,
+        }
     }
 }

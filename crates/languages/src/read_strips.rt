@@ -1,18 +1,17 @@
 // How strip lines are read.
-ghost use Rattle.std.specs.Prelude.{◌≡◌, ℕ};
-ghost use Rattle.lines.specs.Fields.{Within};
-ghost use Rattle.lines.specs.Families.{lookup, reads, OneSpelling};
-ghost use Rattle.lines.specs.Reading.{listed, read, unread};
-ghost use Rattle.languages.specs.StripLines.{strip_letters, strip_limits, strip_make, strip_lines, StripFits};
+ghost use Rattle.languages.specs.StripLines.{strip_lines, StripFits};
+ghost use Rattle.languages.specs.declared.strips.StripLine.{StripLine};
+ghost use Rattle.languages.specs.StripCodec.{strip_codec};
 
-use crate::modes::{fence_kind, read_mode, write_mode};
+use crate::action::{FenceKind, ReadMode, WriteMode};
 use crate::strips::StripLine;
 use lines::MOST_VALUE;
-use lines::reader::{Limits, LineFault, Reader};
+use lines::family::Spelled;
+use lines::reader::Numbers;
 use lines::scope::Scope;
 
 #[derive(Clone, Copy)]
-enum StripKind {
+pub enum StripKind {
     Read,
     Store,
     FetchAdd,
@@ -20,77 +19,67 @@ enum StripKind {
     Print,
 }
 
-fn kind_of(letter: char) -> Option<StripKind>
-    ensures { result ≡ lookup strip_letters letter }
-{
-    match letter {
-        'R' => Some(StripKind::Read),
-        'S' => Some(StripKind::Store),
-        'U' => Some(StripKind::FetchAdd),
-        'F' => Some(StripKind::Fence),
-        'P' => Some(StripKind::Print),
-        _ => None,
+impl Spelled for StripLine {
+    type Kind = StripKind;
+
+    type Scope = Scope;
+
+    ghost Shown = { StripLine };
+
+    ghost shown = { λ a. a };
+
+    ghost family = { λ s. strip_lines s.locations };
+
+    ghost Fits = { λ s. StripFits s.locations };
+
+    ghost codec = { λ s. strip_codec s.locations s.some_locations.1 };
+
+    fn kind_of(letter: char) -> Option<StripKind> {
+        match letter {
+            'R' => Some(StripKind::Read),
+            'S' => Some(StripKind::Store),
+            'U' => Some(StripKind::FetchAdd),
+            'F' => Some(StripKind::Fence),
+            'P' => Some(StripKind::Print),
+            _ => None,
+        }
     }
-}
 
-fn limits(kind: StripKind, scope: Scope) -> Limits
-    ensures { listed result ≡ strip_limits scope.locations kind }
-{
-    let last = (scope.locations() - 1) as u32;
-    let (count, most) = match kind {
-        StripKind::Read => (3, [last, MOST_VALUE, 1, 0, 0, 0]),
-        StripKind::Store => (3, [last, MOST_VALUE, 1, 0, 0, 0]),
-        StripKind::FetchAdd => (4, [last, MOST_VALUE, 1, 1, 0, 0]),
-        StripKind::Fence => (1, [3, 0, 0, 0, 0, 0]),
-        StripKind::Print => (1, [MOST_VALUE, 0, 0, 0, 0, 0]),
-    };
-    Limits { count, most }
-}
-
-fn line_of(kind: StripKind, numbers: [u32; 6], scope: Scope) -> StripLine
-    requires { Within 0 (strip_limits scope.locations kind) numbers }
-    ensures { result ≡ strip_make kind numbers }
-{
-    match kind {
-        StripKind::Read => StripLine::Read {
-            location: numbers[0] as u8,
-            value: numbers[1] as u16,
-            mode: read_mode(numbers[2]),
-        },
-        StripKind::Store => StripLine::Store {
-            location: numbers[0] as u8,
-            value: numbers[1] as u16,
-            mode: write_mode(numbers[2]),
-        },
-        StripKind::FetchAdd => StripLine::FetchAdd {
-            location: numbers[0] as u8,
-            value: numbers[1] as u16,
-            read: read_mode(numbers[2]),
-            write: write_mode(numbers[3]),
-        },
-        StripKind::Fence => StripLine::Fence {
-            kind: fence_kind(numbers[0]),
-        },
-        StripKind::Print => StripLine::Print {
-            value: numbers[0] as u16,
-        },
+    fn limits(kind: StripKind, scope: Scope) -> Numbers {
+        let last = u32::from(scope.locations() - 1);
+        match kind {
+            StripKind::Read | StripKind::Store => Numbers::from_slice(&[last, MOST_VALUE, 1], 0),
+            StripKind::FetchAdd => Numbers::from_slice(&[last, MOST_VALUE, 1, 1], 0),
+            StripKind::Fence => Numbers::from_slice(&[3], 0),
+            StripKind::Print => Numbers::from_slice(&[MOST_VALUE], 0),
+        }
     }
-}
 
-impl StripLine {
-    // Reads the line in front. A line that is refused is not passed.
-    pub fn read(reader: &mut Reader, scope: Scope) -> Result<StripLine, LineFault>
-        ensures value { result ≡ read (reads (strip_lines scope.locations) reader.old.rest.now) }
-        ensures left { reader.new.rest.now ≡ unread (reads (strip_lines scope.locations) reader.old.rest.now) reader.old.rest.now }
-        ensures spelling { OneSpelling (strip_lines scope.locations) (StripFits scope.locations) reader.old.rest.now result reader.new.rest.now }
-    {
-        let Some(letter) = reader.letter() else {
-            return Err(LineFault::Form);
-        };
-        let Some(kind) = kind_of(letter) else {
-            return Err(LineFault::Form);
-        };
-        let numbers = reader.line(limits(kind, scope))?;
-        Ok(line_of(kind, numbers, scope))
+    fn make(kind: StripKind, numbers: &[u32]) -> Option<StripLine> {
+        match (kind, numbers) {
+            (StripKind::Read, [location, value, mode]) => Some(StripLine::Read {
+                location: u8::try_from(*location).ok()?,
+                value: u16::try_from(*value).ok()?,
+                mode: ReadMode::try_from(*mode).ok()?,
+            }),
+            (StripKind::Store, [location, value, mode]) => Some(StripLine::Store {
+                location: u8::try_from(*location).ok()?,
+                value: u16::try_from(*value).ok()?,
+                mode: WriteMode::try_from(*mode).ok()?,
+            }),
+            (StripKind::FetchAdd, [location, value, read, write]) => Some(StripLine::FetchAdd {
+                location: u8::try_from(*location).ok()?,
+                value: u16::try_from(*value).ok()?,
+                read: ReadMode::try_from(*read).ok()?,
+                write: WriteMode::try_from(*write).ok()?,
+            }),
+            (StripKind::Fence, [kind]) => Some(StripLine::Fence {
+                kind: FenceKind::try_from(*kind).ok()?,
+            }),
+            (StripKind::Print, [value]) => Some(StripLine::Print {
+                value: u16::try_from(*value).ok()?,
+            }),
+            _ => None,
+        }
     }
 }

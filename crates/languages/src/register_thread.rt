@@ -6,6 +6,7 @@ ghost use Rattle.languages.specs.Registers.{register_behaviour, register_start, 
 ghost use Rattle.languages.specs.Located.{register_located};
 
 use crate::action::{Action, Taking};
+use crate::current::{Ranged, line_at};
 use crate::language::Language;
 use crate::registers::RegisterLine;
 use lines::MOST_LOCATIONS;
@@ -34,21 +35,17 @@ impl<'a> RegisterThread<'a> {
         ensures value { result ≡ line_at in_range self.now.program.now self.now.line }
         ensures within { OnSome result (self.now.line < length self.now.program.now) }
     {
-        if self.line >= self.program.len() {
-            return None;
-        }
-        let line = self.program[self.line];
-        if in_range(line) { Some(line) } else { None }
+        line_at(self.program, self.line)
     }
 
     // What a register holds.
     fn value(&self, register: u8) -> u16
         ensures { result ≡ slice_index self.now.registers register }
     {
-        match self.registers.get(register as usize) {
-            Some(value) => *value,
-            None => 0,
-        }
+        self.registers
+            .get(usize::from(register))
+            .copied()
+            .unwrap_or(0)
     }
 
     fn put(&mut self, register: u8, value: u16)
@@ -56,9 +53,10 @@ impl<'a> RegisterThread<'a> {
         ensures program { self.new.program.now ≡ self.old.program.now }
         ensures line { self.new.line ≡ self.old.line }
     {
-        let registers = &mut self.registers[..];
-        if (register as usize) < registers.len() {
-            registers[register as usize] = value;
+        // By its place: what `get_mut` lends of an array in a struct gets no proof.
+        let place = usize::from(register);
+        if place < self.registers.len() {
+            self.registers[place] = value;
         }
     }
 
@@ -132,7 +130,7 @@ impl<'a> RegisterThread<'a> {
             }
             RegisterLine::Branch { register, line } => {
                 if self.value(register) != 0 {
-                    self.line = line as usize;
+                    self.line = usize::from(line);
                     return;
                 }
             }
@@ -146,20 +144,22 @@ impl<'a> RegisterThread<'a> {
     }
 }
 
-fn in_range(line: RegisterLine) -> bool
-    ensures { result ≡ in_range line }
-{
-    match line {
-        RegisterLine::Load { location, .. }
-        | RegisterLine::Store { location, .. }
-        | RegisterLine::FetchAdd { location, .. }
-        | RegisterLine::CompareExchange { location, .. } => location < MOST_LOCATIONS,
-        RegisterLine::Constant { .. }
-        | RegisterLine::Add { .. }
-        | RegisterLine::Equal { .. }
-        | RegisterLine::Branch { .. }
-        | RegisterLine::Fence { .. }
-        | RegisterLine::Print { .. } => true,
+impl Ranged for RegisterLine {
+    ghost in_range = { in_range };
+
+    fn in_range(self) -> bool {
+        match self {
+            RegisterLine::Load { location, .. }
+            | RegisterLine::Store { location, .. }
+            | RegisterLine::FetchAdd { location, .. }
+            | RegisterLine::CompareExchange { location, .. } => location < MOST_LOCATIONS,
+            RegisterLine::Constant { .. }
+            | RegisterLine::Add { .. }
+            | RegisterLine::Equal { .. }
+            | RegisterLine::Branch { .. }
+            | RegisterLine::Fence { .. }
+            | RegisterLine::Print { .. } => true,
+        }
     }
 }
 
@@ -271,29 +271,27 @@ mod tests {
     #[test]
     fn registers_hold_what_the_lines_put_there(rt: HostRuntime) {
         let start = RegisterThread::new(&PROGRAM);
-        assert!(rt; matches!(start.next(), Action::Silent));
+        assert_eq!(rt; start.next(), Action::Silent);
         let loaded = replay(&start, &[0, 0, 0, 0, 7]);
-        assert!(rt;
-            matches!(
-                loaded.next(),
-                Action::Write {
-                    location: 1,
-                    value: 10,
-                    mode: WriteMode::Release
-                }
-            )
+        assert_eq!(rt;
+            loaded.next(),
+            Action::Write {
+                location: 1,
+                value: 10,
+                mode: WriteMode::Release
+            }
         );
         let last = replay(&loaded, &[0, 0, 0, 0]);
-        assert!(rt; matches!(last.next(), Action::Print { value: 7 }));
-        assert!(rt; matches!(replay(&last, &[0]).next(), Action::Ended));
+        assert_eq!(rt; last.next(), Action::Print { value: 7 });
+        assert_eq!(rt; replay(&last, &[0]).next(), Action::Ended);
     }
 
     #[test]
     fn updates_replace_what_they_say(rt: HostRuntime) {
         let adding = replay(&RegisterThread::new(&PROGRAM), &[0, 0, 0, 0, 7, 0]);
-        assert!(rt; matches!(adding.takes(65530), Taking::Replaced { value: 4 }));
+        assert_eq!(rt; adding.takes(65530), Taking::Replaced { value: 4 });
         let exchanging = replay(&adding, &[65530]);
-        assert!(rt; matches!(exchanging.takes(5), Taking::Replaced { value: 10 }));
-        assert!(rt; matches!(exchanging.takes(6), Taking::OnlyRead));
+        assert_eq!(rt; exchanging.takes(5), Taking::Replaced { value: 10 });
+        assert_eq!(rt; exchanging.takes(6), Taking::OnlyRead);
     }
 }

@@ -1,7 +1,7 @@
 // The lines of a register program.
 use crate::action::{FenceKind, ReadMode, WriteMode};
 
-#[derive(Clone, Copy)]
+#[derive(Clone, Copy, PartialEq, Eq, Debug)]
 pub enum RegisterLine {
     // C r v: sets r to v
     Constant {

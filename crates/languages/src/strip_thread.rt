@@ -6,6 +6,7 @@ ghost use Rattle.languages.specs.Strips.{strip_behaviour, strip_start, in_range}
 ghost use Rattle.languages.specs.Located.{strip_located};
 
 use crate::action::{Action, Taking};
+use crate::current::{Ranged, line_at};
 use crate::language::Language;
 use crate::strips::StripLine;
 use lines::MOST_LOCATIONS;
@@ -30,22 +31,20 @@ impl<'a> StripThread<'a> {
         ensures value { result ≡ line_at in_range self.now.program.now self.now.line }
         ensures within { OnSome result (self.now.line < length self.now.program.now) }
     {
-        if self.line >= self.program.len() {
-            return None;
-        }
-        let line = self.program[self.line];
-        if in_range(line) { Some(line) } else { None }
+        line_at(self.program, self.line)
     }
 }
 
-fn in_range(line: StripLine) -> bool
-    ensures { result ≡ in_range line }
-{
-    match line {
-        StripLine::Read { location, .. }
-        | StripLine::Store { location, .. }
-        | StripLine::FetchAdd { location, .. } => location < MOST_LOCATIONS,
-        StripLine::Fence { .. } | StripLine::Print { .. } => true,
+impl Ranged for StripLine {
+    ghost in_range = { in_range };
+
+    fn in_range(self) -> bool {
+        match self {
+            StripLine::Read { location, .. }
+            | StripLine::Store { location, .. }
+            | StripLine::FetchAdd { location, .. } => location < MOST_LOCATIONS,
+            StripLine::Fence { .. } | StripLine::Print { .. } => true,
+        }
     }
 }
 
@@ -148,12 +147,12 @@ mod tests {
     #[test]
     fn lines_run_straight_through(rt: HostRuntime) {
         let start = StripThread::new(&PROGRAM);
-        assert!(rt; matches!(start.takes(3), Taking::OnlyRead));
-        assert!(rt; matches!(start.takes(4), Taking::NotTaken));
+        assert_eq!(rt; start.takes(3), Taking::OnlyRead);
+        assert_eq!(rt; start.takes(4), Taking::NotTaken);
         let adding = replay(&start, &[3, 0]);
-        assert!(rt; matches!(adding.takes(65535), Taking::Replaced { value: 1 }));
+        assert_eq!(rt; adding.takes(65535), Taking::Replaced { value: 1 });
         let last = replay(&adding, &[65535, 0]);
-        assert!(rt; matches!(last.next(), Action::Print { value: 8 }));
-        assert!(rt; matches!(replay(&last, &[0]).next(), Action::Ended));
+        assert_eq!(rt; last.next(), Action::Print { value: 8 });
+        assert_eq!(rt; replay(&last, &[0]).next(), Action::Ended);
     }
 }

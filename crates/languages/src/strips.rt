@@ -1,7 +1,7 @@
 // The lines of a strip program, which run straight through.
 use crate::action::{FenceKind, ReadMode, WriteMode};
 
-#[derive(Clone, Copy)]
+#[derive(Clone, Copy, PartialEq, Eq, Debug)]
 pub enum StripLine {
     // R x v o: reads x, and takes only v
     Read {

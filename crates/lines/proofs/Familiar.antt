@@ -1,64 +1,23 @@
 -- Each line of a family has one spelling.
-use Rattle.std.proofs.Common.{◌≡◌, ℕ, zero, suc, ◌+◌, ◌<◌, ◌≤◌, min, eqb, List, [], ◌∷◌, ◌++◌, length, get_or, take, Some, None, Ok, Err, Option, Result, sym, refl, ap, ◌∙◌, subst, inl, inr, add-one, arith}
-use native.Mathlib.Nat.{min-le_left}
-use Rattle.std.proofs.lemmas.List.{length-take, length-append}
+use Rattle.std.proofs.Common.{◌≡◌, ℕ, ◌<◌, eqb, List, [], ◌∷◌, ◌++◌, length, Some, None, Ok, Err, Option, Result, sym, refl, ap, ◌∙◌, subst, inl, inr, arith}
+use Rattle.std.proofs.lemmas.List.{length-append}
 use Rattle.std.proofs.lemmas.Bool.{cases_Bool, eqb-true}
 use Rattle.lines.specs.declared.reader.LineFault.{LineFault}
-use Rattle.lines.specs.declared.reader.LineFault.TheVariants.{Range}
-use Rattle.lines.specs.Fields.{and_then, letter, line}
+use Rattle.lines.specs.Fields.{and_then, letter, line, Within}
 use Rattle.lines.specs.Spelling.{spelled, InRange}
 use Rattle.lines.specs.Families.{Family, lookup, in_range, made, by_kind, reads, spells, OneSpelling}
-use Rattle.lines.specs.declared.reader.Limits.{Limits}
-use Rattle.lines.specs.Reading.{listed, read, unread}
-use Rattle.lines.proofs.Options.{some_same, none_some, err_ok, ok_same}
-use Rattle.lines.proofs.Spelled.{Writable, line_written, line_is_written}
-
--- a table of letters that agrees with the letter of each kind
-abbrev pub Right : {K : Type 0} → (K → ℕ) → List (ℕ × K) → Type 0
-Right letter_of [] = Unit {0}
-Right letter_of (t ∷ ts) = (letter_of t.1 ≡ t.0) × Right letter_of ts
+use Rattle.lines.specs.Reading.{read, unread}
+use Rattle.lines.specs.Codecs.{Right, Codec}
+use Rattle.std.proofs.lemmas.Option.{none-some}
+use Rattle.lines.proofs.Options.{some_same, err_ok, ok_same}
+use Rattle.lines.proofs.Spelled.{line_written, line_is_written, range_length, range_within}
 
 right_lookup : {K : Type 0} (letter_of : K → ℕ) (ts : List (ℕ × K)) (c : ℕ) (k : K) → Right letter_of ts → lookup ts c ≡ Some k → letter_of k ≡ c
-right_lookup letter_of [] c k right e = absurd (none_some e)
+right_lookup letter_of [] c k right e = absurd (none-some _ e)
 right_lookup letter_of (t ∷ ts) c k right e = elim (cases_Bool (eqb c t.0)) [
   | inl same ↦ ap letter_of (sym (some_same (rw same at e))) ∙ right.0 ∙ sym (eqb-true c t.0 same)
   | inr other ↦ right_lookup letter_of ts c k right.1 (rw other at e)
 ]
-
--- n numbers, from place k on
-abbrev pub gets : ℕ → ℕ → List ℕ → List ℕ
-gets k zero vs = []
-gets k (suc n) vs = get_or vs k 0 ∷ gets (k + 1) n vs
-
-gets_later : (k n : ℕ) (v : ℕ) (vs : List ℕ) → gets (k + 1) n (v ∷ vs) ≡ gets k n vs
-gets_later k zero v vs = refl
-gets_later k (suc n) v vs =
-    let here : get_or (v ∷ vs) (k + 1) 0 ≡ get_or vs k 0 = ap (λ i. get_or (v ∷ vs) i 0) (add-one k) in
-    ap (λ x. x ∷ gets (k + 1 + 1) n (v ∷ vs)) here ∙ ap (λ xs. get_or vs k 0 ∷ xs) (gets_later (k + 1) n v vs)
-
--- numbers that fit the limits are as many as these
-pub gets_all : (ms vs : List ℕ) → InRange ms vs → gets 0 (length ms) vs ≡ vs
-gets_all [] [] h = refl
-gets_all [] (v ∷ vs) h = absurd h
-gets_all (m ∷ ms) [] h = absurd h
-gets_all (m ∷ ms) (v ∷ vs) h = ap (λ xs. v ∷ xs) (gets_later 0 (length ms) v vs ∙ gets_all ms vs h.1)
-
--- where the numbers always make a line, a line that they make has their kind and them, and is in range
-pub makes_of : {K A : Type 0} (limits : K → List ℕ) (make : K → List ℕ → A) (kind_of : A → K) (numbers : A → List ℕ) → ((k : K) (vs : List ℕ) → kind_of (make k vs) ≡ k) → ((k : K) (vs : List ℕ) → InRange (limits k) vs → numbers (make k vs) ≡ vs) → (k : K) (vs : List ℕ) (a : A) → InRange (limits k) vs → make k vs ≡ a → (kind_of a ≡ k) × (numbers a ≡ vs) × InRange (limits (kind_of a)) (numbers a)
-makes_of limits make kind_of numbers kinds lists k vs a h e =
-    let same_kind : kind_of a ≡ k = ap kind_of (sym e) ∙ kinds k vs in
-    let same_numbers : numbers a ≡ vs = ap numbers (sym e) ∙ lists k vs h in
-    (same_kind, same_numbers, subst (λ j. InRange (limits j) (numbers a)) (sym same_kind) (subst (λ us. InRange (limits k) us) (sym same_numbers) h))
-
--- what the lines of a family have to show
-pub record Codec {K A : Type 0} (F : Family K A) (Fits : A → Type 0) : Type 0 where
-  pub writable : (k : K) → Writable (F.limits k)
-  pub found : (k : K) → lookup F.letters (F.letter_of k) ≡ Some k
-  pub right : Right F.letter_of F.letters
-  pub writes : (a : A) → Fits a → InRange (F.limits (F.kind_of a)) (F.numbers a) × (F.make (F.kind_of a) (F.numbers a) ≡ Some a)
-  pub makes : (k : K) (vs : List ℕ) (a : A) → InRange (F.limits k) vs → F.make k vs ≡ Some a → (F.kind_of a ≡ k) × (F.numbers a ≡ vs) × Fits a
-  -- numbers past the last field do not count
-  pub enough : (k : K) (n : ℕ) (vs : List ℕ) → length (F.limits k) ≤ n → F.make k (take n vs) ≡ F.make k vs
 
 read_ok : {A : Type 0} (o : Result (A × List ℕ) LineFault) (a : A) (bs : List ℕ) → read o ≡ Ok a → o ≡ Ok (a, unread o bs)
 read_ok (Ok p) a bs e = ap (λ x. Ok (x, p.1)) (ok_same e)
@@ -76,11 +35,6 @@ was_read (Err f) a bs rest e l = absurd (err_ok (sym e))
 pub was_refused : {A : Type 0} (o : Result (A × List ℕ) LineFault) (f : LineFault) → Err f ≡ read o → o ≡ Err f
 was_refused (Ok p) f e = absurd (err_ok e)
 was_refused (Err g) f e = let same : f ≡ g = cc in ap Err (sym same)
-
-listed_count : (limits : Limits) (ms : List ℕ) → listed limits ≡ ms → length ms ≤ limits.count
-listed_count limits ms e =
-    let l : length ms ≡ min limits.count (length limits.most) = sym (ap length e) ∙ length-take limits.count limits.most in
-    omega (arith, min-le_left limits.count (length limits.most))
 
 module _ {K A : Type 0} (F : Family K A) {Fits : A → Type 0} (codec : Codec F Fits) where
   -- what was read, where a line was
@@ -124,27 +78,20 @@ module _ {K A : Type 0} (F : Family K A) {Fits : A → Type 0} (codec : Codec F 
   pub one_spelling : (bs : List ℕ) (r : Result A LineFault) (after : List ℕ) → r ≡ read (reads F bs) → after ≡ unread (reads F bs) bs → OneSpelling F Fits bs r after
   one_spelling bs r after e l = subst (λ x. OneSpelling F Fits bs x after) (sym e) (subst (λ x. OneSpelling F Fits bs (read (reads F bs)) x) (sym l) (one_spelling_at bs))
 
-  module _ (bs : List ℕ) (k : K) (limits : Limits) (chosen : and_then (letter bs) (lookup F.letters) ≡ Some k) (same : listed limits ≡ F.limits k) (after : List ℕ) (left : after ≡ unread (line (listed limits) bs) bs) where
-    -- what the reader of a family answers and leaves, by what the reader of its line did
-    pub refuses : (f : LineFault) → Err f ≡ read (line (listed limits) bs) → (Err f ≡ read (reads F bs)) × (after ≡ unread (reads F bs) bs) × (bs ≡ unread (reads F bs) bs)
-    refuses f e =
-        let l : line (F.limits k) bs ≡ Err f = ap (λ ms. line ms bs) (sym same) ∙ was_refused (line (listed limits) bs) f e in
-        let is : reads F bs ≡ Err f = ap (by_kind F bs) chosen ∙ ap (made F k) l in
-        let kept : bs ≡ unread (reads F bs) bs = sym (ap (λ o. unread o bs) is) in
-        (sym (ap read is), left ∙ ap (λ o. unread o bs) (ap (λ ms. line ms bs) same ∙ l) ∙ kept, kept)
+  pub chosen_by : (bs : List ℕ) (c : ℕ) (k : K) → Some c ≡ letter bs → Some k ≡ lookup F.letters c → and_then (letter bs) (lookup F.letters) ≡ Some k
+  chosen_by bs c k l e = ap (λ o. and_then o (lookup F.letters)) (sym l) ∙ sym e
 
-    pub answers : (vs : List ℕ) (a : A) → Ok (take limits.count vs) ≡ read (line (listed limits) bs) → F.make k vs ≡ Some a → (Ok a ≡ read (reads F bs)) × (after ≡ unread (reads F bs) bs)
-    answers vs a e m =
-        let l : line (F.limits k) bs ≡ Ok (take limits.count vs, after) = ap (λ ms. line ms bs) (sym same) ∙ was_read (line (listed limits) bs) (take limits.count vs) bs after e left in
-        let is : reads F bs ≡ Ok (a, after) = ap (by_kind F bs) chosen ∙ ap (made F k) l ∙ ap (λ o. in_range o after) (codec.enough k limits.count vs (listed_count limits (F.limits k) same) ∙ m) in
-        (sym (ap read is), sym (ap (λ o. unread o bs) is))
+  module _ (bs : List ℕ) (k : K) (ms : List ℕ) (chosen : and_then (letter bs) (lookup F.letters) ≡ Some k) (same : ms ≡ F.limits k) where
+    -- what the reader of a family answers, by what the reader of its line did
+    pub refuses : (f : LineFault) → Err f ≡ read (line ms bs) → reads F bs ≡ Err f
+    refuses f e = ap (by_kind F bs) chosen ∙ ap (λ xs. made F k (line xs bs)) (sym same) ∙ ap (made F k) (was_refused (line ms bs) f e)
 
-    -- a line whose numbers make none is out of range, and is not passed
-    pub rejects : (vs : List ℕ) → Ok (take limits.count vs) ≡ read (line (listed limits) bs) → F.make k vs ≡ None → (Err Range ≡ read (reads F bs)) × (bs ≡ unread (reads F bs) bs)
-    rejects vs e m =
-        let l : line (F.limits k) bs ≡ Ok (take limits.count vs, after) = ap (λ ms. line ms bs) (sym same) ∙ was_read (line (listed limits) bs) (take limits.count vs) bs after e left in
-        let is : reads F bs ≡ Err Range = ap (by_kind F bs) chosen ∙ ap (made F k) l ∙ ap (λ o. in_range o after) (codec.enough k limits.count vs (listed_count limits (F.limits k) same) ∙ m) in
-        (sym (ap read is), sym (ap (λ o. unread o bs) is))
+    -- where they are in range, the line that the numbers make
+    pub makes_line : (vs us after : List ℕ) (o : Option A) → Ok vs ≡ read (line ms bs) → after ≡ unread (line ms bs) bs → InRange ms vs → us ≡ vs → (length us ≡ length (F.limits k) → Within 0 (F.limits k) us → o ≡ F.make k us) → reads F bs ≡ in_range o after
+    makes_line vs us after o e left h is make =
+        let fits : InRange (F.limits k) us = rw (is, ← same) h in
+        let lined : line (F.limits k) bs ≡ Ok (us, after) = rw (is, ← same) (was_read (line ms bs) vs bs after e left) in
+        ap (by_kind F bs) chosen ∙ ap (made F k) lined ∙ ap (λ x. in_range x after) (sym (make (range_length (F.limits k) us fits) (range_within (F.limits k) us fits)))
 
   -- a line that is read has a letter at least
   pub reads_shorter : (bs : List ℕ) (a : A) (rest : List ℕ) → reads F bs ≡ Ok (a, rest) → length rest < length bs

@@ -1,10 +1,9 @@
 -- What one turn of the fields' reader keeps.
-use Rattle.std.proofs.Common.{◌≡◌, ℕ, ◌+◌, ◌<◌, ◌≤◌, min, List, [], ◌∷◌, ◌++◌, length, get_or, take, drop, Some, None, Option, sym, refl, ap, ◌∙◌, append_assoc, arith}
-use Rattle.std.proofs.lemmas.List.{at_drop_more, at_drop_all, append-nil, length-set, take_more_set}
-use Rattle.std.specs.Option.{option_map}
+use Rattle.lines.specs.Reading.{with_last}
+use Rattle.std.proofs.lemmas.Bool.{lt-ltb}
+use Rattle.std.proofs.Common.{◌≡◌, ℕ, ◌+◌, ◌<◌, ◌≤◌, List, [], ◌∷◌, ◌++◌, length, get_or, drop, Some, None, Option, sym, refl, ap, ◌∙◌, append_assoc, arith}
+use Rattle.std.proofs.lemmas.List.{at_drop_more, at_drop_all, append-nil, length_push}
 use Rattle.lines.specs.Fields.{field, fields, with_first, and_then}
-use Rattle.lines.specs.Reading.{set_in, Six}
-use Rattle.lines.proofs.Cuts.{take_cut}
 
 abbrev pub both : Option (List ℕ) → Option (List ℕ) → Option (List ℕ)
 both None b = None
@@ -55,17 +54,12 @@ module _ (ms : List ℕ) (k : ℕ) (h : k < length ms) (a : Option (List ℕ)) (
 pub fields_end : (ms : List ℕ) (k : ℕ) → length ms ≤ k → (a : Option (List ℕ)) (bs : List ℕ) → prepend a (fields (drop k ms) bs) ≡ Some (a, bs)
 fields_end ms k h a bs = at_drop_all (λ xs. prepend a (fields xs bs)) ms k h ∙ ap (λ b. Some (b, bs)) (both_nil a)
 
-pub set_in_more : (vs : Option (List ℕ)) (k : ℕ) (v : Option ℕ) → Six vs → k < 6 → option_map (take (k + 1)) (set_in vs k v) ≡ both (option_map (take k) vs) (alone v)
-set_in_more None k v six h = refl
-set_in_more (Some vs) k None six h = refl
-set_in_more (Some vs) k (Some v) six h = ap Some (take_more_set vs k v (omega arith))
+-- where all are in range, so many of them
+abbrev pub Many : ℕ → Option (List ℕ) → Type 0
+Many k None = Unit {0}
+Many k (Some vs) = length vs ≡ k
 
-pub set_in_six : (vs : Option (List ℕ)) (k : ℕ) (v : Option ℕ) → Six vs → Six (set_in vs k v)
-set_in_six None k v six = tt
-set_in_six (Some vs) k None six = tt
-set_in_six (Some vs) k (Some v) six = length-set vs k v ∙ six
-
--- of at most six numbers, the first so many are those that were read
-pub take_six : (vs : Option (List ℕ)) (n k : ℕ) → Six vs → k ≡ min n 6 → option_map (take k) vs ≡ option_map (take n) vs
-take_six None n k six e = refl
-take_six (Some vs) n k six e = ap Some (take_cut vs n k 6 six e)
+pub one_more_field : (k : ℕ) (vs : Option (List ℕ)) (v : Option ℕ) → Many k vs → k < 6 → (Many (k + 1) (with_last vs v)) × (with_last vs v ≡ both vs (alone v))
+one_more_field k None v h small = (tt, refl)
+one_more_field k (Some vs) None h small = (tt, refl)
+one_more_field k (Some vs) (Some v) h small = let t = lt-ltb (length vs) 6 (omega arith) in rw t (length_push vs v ∙ ap (λ n. n + 1) h, refl)

@@ -1,10 +1,8 @@
-pub mod Cuts
 pub mod Options
 pub mod Numbers
 pub mod Gathered
 pub mod Answered
 pub mod Spelled
 pub mod Familiar
-pub mod TraceCodec
 pub mod Walked
 pub mod Sections

@@ -1,9 +1,9 @@
 -- What one turn of the number reader keeps.
-use Rattle.std.proofs.Common.{◌≡◌, ℕ, ◌+◌, ◌-◌, ◌*◌, ◌<◌, ◌≤◌, Bool, true, false, cond, ◌⊎◌, List, [], ◌∷◌, length, get_or, drop, Some, None, Option, sym, refl, ap, ◌∙◌, inl, inr, arith, le-leb}
+use Rattle.std.proofs.Common.{◌≡◌, ℕ, ◌+◌, ◌-◌, ◌*◌, ◌<◌, ◌≤◌, true, false, cond, List, [], ◌∷◌, length, get_or, take, drop, Some, None, Option, sym, refl, ap, ◌∙◌, inl, inr, arith, le-leb}
 use borrow.Author.Tests.{lt-leb}
-use Rattle.std.proofs.lemmas.List.{at_drop_more, at_drop_all}
+use Rattle.std.proofs.lemmas.List.{drop-drop}
 use Rattle.std.proofs.lemmas.Bool.{cases_lt}
-use Rattle.lines.specs.Fields.{digit, digits, value_after, up_to, one_more, plain_by, number}
+use Rattle.lines.specs.Fields.{digit, digits, value_after, up_to, one_more, plain, number}
 
 -- the number, read on to the last digit
 abbrev pub read_on : ℕ → Option ℕ → List ℕ → Option ℕ
@@ -29,36 +29,57 @@ read_on_is most v (b ∷ bs) h =
       | false ↦ sym (rw (le-leb v most h))
     ]
 
-module _ (bs : List ℕ) (i : ℕ) (h : i < length bs) where
-  pub read_on_more : (most : ℕ) (v : Option ℕ) → digit (get_or bs i 0) ≡ true → read_on most v (drop i bs) ≡ read_on most (one_more most v (get_or bs i 0)) (drop (i + 1) bs)
-  read_on_more most v e = at_drop_more (read_on most v) bs i 0 h ∙ rw e
+-- the number v was read of the bytes up to the rest
+pub record ReadTo (most : ℕ) (bs : List ℕ) (v : Option ℕ) (rest : List ℕ) : Type 0 where
+  pub fewer : length rest ≤ length bs
+  pub left : drop (length bs - length rest) bs ≡ rest
+  pub value : read_on most v rest ≡ read_on most (Some 0) bs
+  pub count : length (digits rest) + length bs ≡ length (digits bs) + length rest
 
-  pub read_on_stop : (most : ℕ) (v : Option ℕ) → digit (get_or bs i 0) ≡ false → read_on most v (drop i bs) ≡ v
-  read_on_stop most v e = at_drop_more (read_on most v) bs i 0 h ∙ rw e
+pub read_none_yet : (most : ℕ) (bs : List ℕ) → ReadTo most bs (Some 0) bs
+read_none_yet most bs = let none : length bs - length bs ≡ 0 = omega arith in record { fewer = omega arith; left = rw none; value = refl; count = refl }
 
-  pub digits_more : digit (get_or bs i 0) ≡ true → length (digits (drop i bs)) ≡ length (digits (drop (i + 1) bs)) + 1
-  digits_more e = at_drop_more (λ xs. length (digits xs)) bs i 0 h ∙ rw e (omega arith)
+drop_1 : (i n : ℕ) (bs : List ℕ) → i + 1 ≡ n → drop n bs ≡ drop 1 (drop i bs)
+drop_1 i n bs e = sym (ap (λ j. drop j bs) e) ∙ sym (drop-drop 1 i bs)
 
-  pub digits_stop : digit (get_or bs i 0) ≡ false → length (digits (drop i bs)) ≡ 0
-  digits_stop e = at_drop_more (λ xs. length (digits xs)) bs i 0 h ∙ rw e
+pub read_one_more : (most : ℕ) (bs : List ℕ) (v : Option ℕ) (rest : List ℕ) → 0 < length rest → digit (get_or rest 0 0) ≡ true → ReadTo most bs v rest → ReadTo most bs (one_more most v (get_or rest 0 0)) (drop 1 rest)
+read_one_more most bs v [] some d r = absurd (omega arith)
+read_one_more most bs v (b ∷ rest) some d r =
+    let n = length bs - length rest in
+    let next : length bs - length (b ∷ rest) + 1 ≡ n = omega (arith, r.fewer) in
+    record {
+      fewer = omega (arith, r.fewer);
+      left = rw (drop_1 (length bs - length (b ∷ rest)) n bs next) (ap (drop 1) r.left);
+      value = sym (rw d at (sym r.value));
+      count = omega (arith, rw d at r.count);
+    }
 
-pub digits_first : (bs : List ℕ) → 0 < length (digits bs) → get_or (digits bs) 0 0 ≡ get_or bs 0 0
-digits_first [] h = refl
-digits_first (b ∷ bs) h =
-    let goal : Bool → Type 0 = λ t. 0 < length (cond t (b ∷ digits bs) []) → get_or (cond t (b ∷ digits bs) []) 0 0 ≡ b in
-    elim (digit b) as goal [ true ↦ λ _. refl | false ↦ λ l. absurd (omega arith) ] h
+-- what begins with no digit
+abbrev pub Past : List ℕ → Type 0
+Past [] = Unit {0}
+Past (b ∷ bs) = digit b ≡ false
 
--- where the digits end, nothing more is read
-pub digits_end : (most : ℕ) (v : Option ℕ) (bs : List ℕ) (i : ℕ) → (length bs ≤ i) ⊎ ((i < length bs) × (digit (get_or bs i 0) ≡ false)) → (read_on most v (drop i bs) ≡ v) × (length (digits (drop i bs)) ≡ 0)
-digits_end most v bs i (inl past) = (at_drop_all (read_on most v) bs i past, at_drop_all (λ xs. length (digits xs)) bs i past)
-digits_end most v bs i (inr (h, e)) = (read_on_stop bs i h most v e, digits_stop bs i h e)
+pub past_if : (bs : List ℕ) → (0 < length bs → digit (get_or bs 0 0) ≡ false) → Past bs
+past_if [] h = tt
+past_if (b ∷ bs) h = h (omega arith)
 
-pub number_found : (most : ℕ) (bs : List ℕ) (n : ℕ) (v : Option ℕ) → length (digits bs) ≡ n → 0 < n → plain_by n (get_or bs 0 0) ≡ true → v ≡ read_on most (Some 0) bs → number most bs ≡ Some (v, drop n bs)
-number_found most bs n v l some p e =
-    let first = digits_first bs (omega arith) in
-    let w : up_to most (value_after 0 (digits bs)) ≡ v = sym (read_on_is most 0 bs (omega arith)) ∙ sym e in
-    rw (first, l, p, w)
+read_past : (most : ℕ) (v : Option ℕ) (bs : List ℕ) → Past bs → (read_on most v bs ≡ v) × (digits bs ≡ [])
+read_past most v [] h = (refl, refl)
+read_past most v (b ∷ bs) h = (rw h, rw h)
 
-pub number_none : (most : ℕ) (bs : List ℕ) (n : ℕ) → length (digits bs) ≡ n → (n ≡ 0) ⊎ ((0 < n) × (plain_by n (get_or bs 0 0) ≡ false)) → number most bs ≡ None
-number_none most bs n l (inl e) = rw (l, e)
-number_none most bs n l (inr (some, p)) = let first = digits_first bs (omega arith) in rw (first, l, p)
+pub read_all : (most : ℕ) (bs : List ℕ) (v : Option ℕ) (rest : List ℕ) → Past rest → ReadTo most bs v rest → (length bs - length rest ≡ length (digits bs)) × (up_to most (value_after 0 (digits bs)) ≡ v)
+read_all most bs v rest past r =
+    let p = read_past most v rest past in
+    (omega (arith, r.fewer, r.count, ap length p.1), sym (read_on_is most 0 bs (omega arith)) ∙ sym r.value ∙ p.0)
+
+pub digits_in_front : (bs : List ℕ) → take (length (digits bs)) bs ≡ digits bs
+digits_in_front [] = refl
+digits_in_front (b ∷ bs) = elim (digit b) as (λ t. take (length (cond t (b ∷ digits bs) [])) (b ∷ bs) ≡ cond t (b ∷ digits bs) []) [ true ↦ ap (λ xs. b ∷ xs) (digits_in_front bs) | false ↦ refl ]
+
+-- where no digit is left, the number is what was read
+pub number_is : (most : ℕ) (bs : List ℕ) (v : Option ℕ) (rest : List ℕ) → Past rest → ReadTo most bs v rest → number most bs ≡ cond (plain (take (length bs - length rest) bs)) (Some (v, rest)) None
+number_is most bs v rest past r =
+    let p = read_all most bs v rest past r in
+    let front : take (length bs - length rest) bs ≡ digits bs = ap (λ n. take n bs) p.0 ∙ digits_in_front bs in
+    let back : drop (length (digits bs)) bs ≡ rest = ap (λ n. drop n bs) (sym p.0) ∙ r.left in
+    rw (front, p.1, back)

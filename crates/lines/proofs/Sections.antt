@@ -1,13 +1,14 @@
 -- A section that is walked to its end is the spelling of the lines that were taken, and no other section is.
 use Rattle.std.proofs.Common.{◌≡◌, ℕ, zero, suc, ◌+◌, ◌<◌, ◌≤◌, List, [], ◌∷◌, ◌++◌, length, Ok, Err, Result, refl, ap, ◌∙◌, arith}
 use Rattle.std.proofs.lemmas.List.{length-append}
-use Rattle.std.specs.List.{AllByRecursion as All}
+use Rattle.std.specs.List.{AllByRecursion}
 use Rattle.lines.specs.declared.reader.LineFault.{LineFault}
 use Rattle.lines.specs.declared.refusal.LineRefusal.{LineRefusal}
 use Rattle.lines.specs.Families.{Family, reads, spells, all_spelled}
 use Rattle.lines.specs.Walks.{goes_on, walk, walked}
 use Rattle.lines.proofs.Options.{err_ok, ok_same}
-use Rattle.lines.proofs.Familiar.{Codec, is_spelled, is_read, reads_shorter}
+use Rattle.lines.specs.Codecs.{Codec}
+use Rattle.lines.proofs.Familiar.{is_spelled, is_read, reads_shorter}
 use Rattle.lines.proofs.Walked.{walk_end, walk_more}
 
 -- each line leads on from where the ones before it led
@@ -19,7 +20,7 @@ Chain {S} Act s (a ∷ lines) u = (t : S) × Act s a t × Chain Act t lines u
 pub record ByLines {K A S : Type 0} (family : Family K A) (Fits : A → Type 0) (Act : S → A → S → Type 0) (s : S) (bs : List ℕ) (t : S) : Type 0 where
   pub lines : List A
   pub spelled : bs ≡ all_spelled family lines
-  pub fit : All Fits lines
+  pub fit : AllByRecursion Fits lines
   pub chain : Chain Act s lines t
 
 -- a line that was read is taken exactly where Act says so, and one that was not read is never taken
@@ -61,7 +62,7 @@ module _ {A S F : Type 0} {acts : S → Result (A × List ℕ) LineFault → Res
           chain = (g.0, a.2, r.chain);
         }
 
-    lines_walk : (lines : List A) (s : S) (n : ℕ) (bs : List ℕ) (t : S) → bs ≡ all_spelled family lines → All Fits lines → Chain Act s lines t → walk step (length bs) s n bs ≡ Ok t
+    lines_walk : (lines : List A) (s : S) (n : ℕ) (bs : List ℕ) (t : S) → bs ≡ all_spelled family lines → AllByRecursion Fits lines → Chain Act s lines t → walk step (length bs) s n bs ≡ Ok t
     lines_walk [] s n bs t e fit c = walk_end step step_shorter s n bs (ap length e) ∙ ap Ok c
     lines_walk (a ∷ lines) s n bs t e fit c =
         let rest = all_spelled family lines in

@@ -1,12 +1,14 @@
 -- A line has one spelling: what is read is what was written, and what was written is read.
-use Rattle.std.proofs.Common.{◌≡◌, ℕ, zero, suc, ◌+◌, ◌^◌, ◌<◌, ◌≤◌, min, Bool, true, false, ◌&&◌, eqb, leb, List, [], ◌∷◌, ◌++◌, length, get_or, take, drop, Some, None, Ok, decimal, Option, sym, refl, ap, ◌∙◌, subst, inl, inr, append_assoc, arith, rules}
-use native.Mathlib.Nat.{min-le_left}
-use Rattle.std.proofs.lemmas.List.{nil_from_length, length-take, drop_at, get_or-take}
+use Rattle.std.proofs.Common.{◌≡◌, ℕ, zero, suc, ◌+◌, ◌^◌, ◌<◌, ◌≤◌, Bool, true, ◌&&◌, eqb, leb, ltb, not, List, [], ◌∷◌, ◌++◌, length, get_or, drop, Some, None, Ok, decimal, Option, sym, refl, ap, ◌∙◌, subst, inl, inr, append_assoc, arith, rules}
+use Rattle.std.proofs.lemmas.List.{nil_from_length, drop_at, take-append-drop}
 use Rattle.std.proofs.lemmas.Bool.{cases_Bool, cases_eq, and_parts, leb-true, eqb-true, eqb-false, ltb-true, lt-ltb, le-leb, eq-eqb, ne_eqb, not-true}
 use Rattle.std.proofs.lemmas.Str.Parse.{IsNumeralModel, numerals_by_fold}
 use Rattle.std.proofs.lemmas.Fmt.{digits_decimal, digits_value-decimal, decimal-digits_value, decimal_nonempty, first_decimal, decimal_digit}
-use Rattle.lines.proofs.Options.{some_same, none_some, err_ok, ok_same, and_then_some}
+use Rattle.std.proofs.lemmas.Option.{none-some}
+use Rattle.lines.proofs.Options.{some_same, err_ok, ok_same, and_then_some}
+use Rattle.lines.proofs.Numbers.{digits_in_front}
 use Rattle.lines.specs.Fields.{digit, digits, value_after, plain, up_to, number, past, field, with_first, fields, judged, line, Within}
+use Rattle.lines.specs.Codecs.{Writable}
 use Rattle.lines.specs.Spelling.{spelled_fields, spelled, InRange}
 
 abbrev all_digits : List ℕ → Bool
@@ -25,8 +27,7 @@ digits_all [] = refl
 digits_all (b ∷ bs) = elim (cases_Bool (digit b)) [ inl e ↦ rw (e, e) (digits_all bs) | inr e ↦ rw e ]
 
 digits_front : (bs : List ℕ) → bs ≡ digits bs ++ drop (length (digits bs)) bs
-digits_front [] = refl
-digits_front (b ∷ bs) = elim (cases_Bool (digit b)) [ inl e ↦ rw e (ap (λ xs. b ∷ xs) (digits_front bs)) | inr e ↦ rw e ]
+digits_front bs = sym (take-append-drop (length (digits bs)) bs) ∙ ap (λ xs. xs ++ drop (length (digits bs)) bs) (digits_in_front bs)
 
 digits_append : (ds bs : List ℕ) → all_digits ds ≡ true → Stops bs → digits (ds ++ bs) ≡ ds
 digits_append [] bs all stops = nil_from_length (digits bs) stops
@@ -41,7 +42,7 @@ plain_from ds some lead = elim (cases_eq (length ds) 1) [
 plain_tells : (ds : List ℕ) → plain ds ≡ true → (0 < length ds) × (get_or ds 0 0 ≡ 48 → length ds ≡ 1)
 plain_tells ds p = elim (cases_eq (length ds) 1) [
   | inl one ↦ (omega arith, λ _. one)
-  | inr more ↦ let q = and_parts _ _ (rw (ne_eqb (length ds) 1 more) at p) in (omega (arith, ltb-true 1 (length ds) q.0), λ e. absurd (eqb-false (get_or ds 0 0) 48 (not-true _ q.1) e))
+  | inr more ↦ let q : (ltb 1 (length ds) ≡ true) × (not (eqb (get_or ds 0 0) 48) ≡ true) = and_parts _ _ (rw (ne_eqb (length ds) 1 more) at p) in (omega (arith, ltb-true 1 (length ds) q.0), λ e. absurd (eqb-false (get_or ds 0 0) 48 (not-true _ q.1) e))
 ]
 
 plain_decimal : (v : ℕ) → v < 2 ^ 64 → plain (decimal v) ≡ true
@@ -63,7 +64,7 @@ number_written most v bs h small stops =
 up_to_some : (most v w : ℕ) → up_to most v ≡ Some w → (v ≡ w) × (v ≤ most)
 up_to_some most v w e = elim (cases_Bool (leb v most)) [
   | inl t ↦ (some_same (rw t at e), leb-true v most t)
-  | inr f ↦ absurd (none_some (rw f at e))
+  | inr f ↦ absurd (none-some _ (rw f at e))
 ]
 
 number_parts : (most v : ℕ) (bs rest : List ℕ) → most < 2 ^ 64 → plain (digits bs) ≡ true → ◌≡◌ {A = Option ℕ × List ℕ} (up_to most (value_after 0 (digits bs)), drop (length (digits bs)) bs) (Some v, rest) → (bs ≡ decimal v ++ rest) × (v ≤ most)
@@ -76,27 +77,22 @@ number_parts most v bs rest small p e =
 number_is_written : (most v : ℕ) (bs rest : List ℕ) → most < 2 ^ 64 → number most bs ≡ Some (Some v, rest) → (bs ≡ decimal v ++ rest) × (v ≤ most)
 number_is_written most v bs rest small e = elim (cases_Bool (plain (digits bs))) [
   | inl p ↦ number_parts most v bs rest small p (some_same (rw p at e))
-  | inr f ↦ absurd (none_some (rw f at e))
+  | inr f ↦ absurd (none-some _ (rw f at e))
 ]
 
 pub past_some : (c : ℕ) (bs rest : List ℕ) → past c bs ≡ Some rest → bs ≡ c ∷ rest
-past_some c [] rest e = let z : ◌≡◌ {A = ℕ} 0 1 = cc in absurd (omega arith)
+past_some c [] rest e = absurd (cc)
 past_some c (b ∷ bs) rest e = elim (cases_Bool (eqb b c)) [
   | inl t ↦ let same : bs ≡ rest = some_same (rw t at e) in ap (λ x. x ∷ bs) (eqb-true b c t) ∙ ap (λ xs. c ∷ xs) same
-  | inr f ↦ absurd (none_some (rw f at e))
+  | inr f ↦ absurd (none-some _ (rw f at e))
 ]
 
 -- fields have one spelling
 
 with_first_some : (v : Option ℕ) (vs : Option (List ℕ)) (us : List ℕ) → with_first v vs ≡ Some us → (w : ℕ) × (ws : List ℕ) × (v ≡ Some w) × (vs ≡ Some ws) × (us ≡ w ∷ ws)
-with_first_some None vs us e = absurd (none_some e)
-with_first_some (Some w) None us e = absurd (none_some e)
+with_first_some None vs us e = absurd (none-some _ e)
+with_first_some (Some w) None us e = absurd (none-some _ e)
 with_first_some (Some w) (Some ws) us e = (w, ws, refl, refl, sym (some_same e))
-
--- every limit is a number that can be written
-abbrev pub Writable : List ℕ → Type 0
-Writable [] = Unit {0}
-Writable (m ∷ ms) = (m < 2 ^ 64) × Writable ms
 
 stops_fields : (vs rest : List ℕ) → Stops (spelled_fields vs ++ rest)
 stops_fields [] rest = refl
@@ -123,7 +119,7 @@ fields_parts m ms bs us rest e =
 number_range : (most v : ℕ) (bs rest : List ℕ) → number most bs ≡ Some (Some v, rest) → v ≤ most
 number_range most v bs rest e = elim (cases_Bool (plain (digits bs))) [
   | inl p ↦ let u = up_to_some most (value_after 0 (digits bs)) v (ap (λ x. x.0) (some_same (rw p at e))) in omega (arith, u.0, u.1)
-  | inr f ↦ absurd (none_some (rw f at e))
+  | inr f ↦ absurd (none-some _ (rw f at e))
 ]
 
 pub fields_range : (ms bs vs rest : List ℕ) → fields ms bs ≡ Some (Some vs, rest) → InRange ms vs
@@ -194,29 +190,19 @@ within_from k (m ∷ ms) vs h =
     let here : k + 0 ≡ k = omega arith in
     (rw here at (h 0 (omega arith)), within_from (k + 1) ms vs (λ i l. let next : k + suc i ≡ k + 1 + i = omega arith in rw next at (h (suc i) (omega arith))))
 
-range_length : (ms us : List ℕ) → InRange ms us → length us ≡ length ms
-range_length [] [] h = refl
-range_length [] (u ∷ us) h = absurd h
-range_length (m ∷ ms) [] h = absurd h
-range_length (m ∷ ms) (u ∷ us) h = ap suc (range_length ms us h.1)
-
 pub range_at : (ms us : List ℕ) → InRange ms us → (i : ℕ) → i < length ms → get_or us i 0 ≤ get_or ms i 0
 range_at [] us h i l = absurd (omega arith)
 range_at (m ∷ ms) [] h i l = absurd h
 range_at (m ∷ ms) (u ∷ us) h zero l = h.0
 range_at (m ∷ ms) (u ∷ us) h (suc i) l = range_at ms us h.1 i (omega arith)
 
-pub within_taken : (n : ℕ) (ms us vs : List ℕ) → InRange ms us → us ≡ take n vs → Within 0 ms vs
-within_taken n ms us vs h e =
-    within_from 0 ms vs (λ i l.
-    let long : length us ≡ min n (length vs) = ap length e ∙ length-take n vs in
-    let zero-add : 0 + i ≡ i = omega arith in
-    let same : get_or us i 0 ≡ get_or vs i 0 = ap (λ xs. get_or xs i 0) e ∙ get_or-take n vs i 0 (omega (arith, range_length ms us h, min-le_left n (length vs))) in
-    rw zero-add (omega (arith, same, range_at ms us h i l)))
+-- numbers in range are as many as the limits, and each keeps its own
+pub range_length : (ms us : List ℕ) → InRange ms us → length us ≡ length ms
+range_length [] [] h = refl
+range_length [] (u ∷ us) h = absurd h
+range_length (m ∷ ms) [] h = absurd h
+range_length (m ∷ ms) (u ∷ us) h = ap suc (range_length ms us h.1)
 
-pub line_from : (ms bs vs feed rest : List ℕ) → 0 < length bs → fields ms (drop 1 bs) ≡ Some (Some vs, feed) → past 10 feed ≡ Some rest → line ms bs ≡ Ok (vs, rest)
-line_from ms [] vs feed rest some e p = absurd (omega arith)
-line_from ms (c ∷ bs) vs feed rest some e p = rw (e, p)
-
-pub not_empty : (bs : List ℕ) → eqb (length bs) 0 ≡ false → 0 < length bs
-not_empty bs e = omega (arith, eqb-false (length bs) 0 e)
+pub range_within : (ms us : List ℕ) → InRange ms us → Within 0 ms us
+range_within ms us h =
+    within_from 0 ms us (λ i l. let zero-add : 0 + i ≡ i = omega arith in rw zero-add (range_at ms us h i l))

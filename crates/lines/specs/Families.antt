@@ -1,5 +1,5 @@
 -- A family of lines: a letter chooses a kind, a kind its fields, and the numbers make the line.
-use Rattle.std.specs.Prelude.{◌≡◌, ℕ, cond, List, [], ◌∷◌, ◌++◌, Some, None, Ok, Err, Option, Result, ◌==◌}
+use Rattle.std.specs.Prelude.{◌≡◌, ℕ, if◌then◌else◌, List, [], ◌∷◌, ◌++◌, Some, None, Ok, Err, Option, Result, ◌==◌}
 use Rattle.lines.specs.declared.reader.LineFault.{LineFault}
 use Rattle.lines.specs.declared.reader.LineFault.TheVariants.{Form, Range}
 use Rattle.lines.specs.Fields.{and_then, letter, line}
@@ -19,7 +19,7 @@ pub record Family (K A : Type 0) : Type 0 where
 
 abbrev pub lookup : {K : Type 0} → List (ℕ × K) → ℕ → Option K
 lookup [] c = None
-lookup (t ∷ ts) c = cond (c == t.0) (Some t.1) (lookup ts c)
+lookup (t ∷ ts) c = if c == t.0 then Some t.1 else lookup ts c
 
 abbrev pub in_range : {A : Type 0} → Option A → List ℕ → Result (A × List ℕ) LineFault
 in_range None rest = Err Range
@@ -51,3 +51,8 @@ module _ {K A : Type 0} (F : Family K A) where
   abbrev pub OneSpelling : (A → Type 0) → List ℕ → Result A LineFault → List ℕ → Type 0
   OneSpelling Fits before r after =
       ((a : A) → r ≡ Ok a → (before ≡ spells a ++ after) × Fits a) × ((a : A) (rest : List ℕ) → Fits a → before ≡ spells a ++ rest → (r ≡ Ok a) × (after ≡ rest))
+
+-- what clauses see of an answer
+abbrev pub seen : {A B : Type 0} → (A → B) → Result A LineFault → Result B LineFault
+seen see (Ok a) = Ok (see a)
+seen see (Err f) = Err f

@@ -1,6 +1,6 @@
 -- A line is one capital letter, then its fields, then a line feed.
 -- A field is one space and a decimal number without leading zeros.
-use Rattle.std.specs.Prelude.{ℕ, ◌+◌, ◌-◌, ◌*◌, ◌≤◌, Bool, cond, not, ◌&&◌, ◌||◌, List, [], ◌∷◌, length, drop, Some, None, Ok, Err, Option, Result, ◌==◌, nat_le, nat_lt, slice_index}
+use Rattle.std.specs.Prelude.{ℕ, ◌+◌, ◌-◌, ◌*◌, ◌≤◌, Bool, if◌then◌else◌, not, ◌&&◌, ◌||◌, List, [], ◌∷◌, length, drop, Some, None, Ok, Err, Option, Result, ◌==◌, nat_le, nat_lt, slice_index}
 use Rattle.lines.specs.declared.reader.LineFault.{LineFault}
 use Rattle.lines.specs.declared.reader.LineFault.TheVariants.{Form, Range}
 
@@ -10,7 +10,7 @@ digit b = nat_le 48 b && nat_le b 57
 -- the digits in front
 abbrev pub digits : List ℕ → List ℕ
 digits [] = []
-digits (b ∷ bs) = cond (digit b) (b ∷ digits bs) []
+digits (b ∷ bs) = if digit b then b ∷ digits bs else []
 
 -- the number that digits write after v
 abbrev pub value_after : ℕ → List ℕ → ℕ
@@ -26,7 +26,7 @@ plain ds = plain_by (length ds) (slice_index ds 0)
 
 -- a number up to the largest, or none
 abbrev pub up_to : ℕ → ℕ → Option ℕ
-up_to most v = cond (nat_le v most) (Some v) None
+up_to most v = if nat_le v most then Some v else None
 
 -- one digit more
 abbrev pub one_more : ℕ → Option ℕ → ℕ → Option ℕ
@@ -35,12 +35,12 @@ one_more most (Some v) d = up_to most (10 * v + (d - 48))
 
 -- a number, none where it is above the largest, and what follows it
 abbrev pub number : ℕ → List ℕ → Option (Option ℕ × List ℕ)
-number most bs = cond (plain (digits bs)) (Some (up_to most (value_after 0 (digits bs)), drop (length (digits bs)) bs)) None
+number most bs = if plain (digits bs) then Some (up_to most (value_after 0 (digits bs)), drop (length (digits bs)) bs) else None
 
 -- what follows the byte c
 abbrev pub past : ℕ → List ℕ → Option (List ℕ)
 past c [] = None
-past c (b ∷ bs) = cond (b == c) (Some bs) None
+past c (b ∷ bs) = if b == c then Some bs else None
 
 abbrev pub and_then : {A B : Type 0} → Option A → (A → Option B) → Option B
 and_then None k = None

@@ -2,6 +2,9 @@ pub mod Fields
 pub mod Reading
 pub mod Spelling
 pub mod Families
+pub mod Codecs
 pub mod TraceLines
+pub mod TraceCodec
 pub mod Walks
 pub mod Scopes
+pub mod Layers

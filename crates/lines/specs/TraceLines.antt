@@ -1,9 +1,10 @@
 -- The lines of a trace, of n threads and l locations.
-use Rattle.std.specs.Prelude.{ℕ, ◌-◌, List, [], ◌∷◌, Some, slice_index}
+use Rattle.std.specs.Prelude.{ℕ, ◌+◌, ◌-◌, List, [], ◌∷◌, Some, slice_index}
 use Rattle.lines.specs.declared.trace.Kind.{Kind}
 use Rattle.lines.specs.declared.trace.Kind.TheVariants as kind
 use Rattle.lines.specs.declared.trace.Line.{Line}
 use Rattle.lines.specs.declared.trace.Line.TheVariants as line
+use Rattle.lines.specs.declared.span.Span.{Span}
 use Rattle.lines.specs.Families.{Family}
 use Rattle.lines.specs.Spelling.{InRange}
 
@@ -33,13 +34,17 @@ trace_limits n l kind.Keep = 65535 ∷ []
 trace_limits n l kind.Show = []
 trace_limits n l kind.EndTurn = []
 
+-- the span of the two numbers from place k on
+abbrev pub span_of : List ℕ → ℕ → Span
+span_of vs k = record { from = slice_index vs k; to = slice_index vs (k + 1) }
+
 abbrev pub trace_make : Kind → List ℕ → Line
 trace_make kind.Turn vs = line.Turn (slice_index vs 0)
 trace_make kind.Next vs = line.Next
 trace_make kind.Read vs = line.Read (slice_index vs 0)
-trace_make kind.Write vs = line.Write (slice_index vs 0) (slice_index vs 1)
-trace_make kind.Update vs = line.Update (slice_index vs 0) (slice_index vs 1)
-trace_make kind.Promise vs = line.Promise (slice_index vs 0) (slice_index vs 1) (slice_index vs 2) (slice_index vs 3)
+trace_make kind.Write vs = line.Write (span_of vs 0)
+trace_make kind.Update vs = line.Update (span_of vs 0)
+trace_make kind.Promise vs = line.Promise (slice_index vs 0) (slice_index vs 1) (span_of vs 2)
 trace_make kind.Keep vs = line.Keep (slice_index vs 0)
 trace_make kind.Show vs = line.Show
 trace_make kind.EndTurn vs = line.EndTurn
@@ -48,9 +53,9 @@ abbrev pub trace_kind : Line → Kind
 trace_kind (line.Turn i) = kind.Turn
 trace_kind line.Next = kind.Next
 trace_kind (line.Read t) = kind.Read
-trace_kind (line.Write f t) = kind.Write
-trace_kind (line.Update f t) = kind.Update
-trace_kind (line.Promise x v f t) = kind.Promise
+trace_kind (line.Write s) = kind.Write
+trace_kind (line.Update s) = kind.Update
+trace_kind (line.Promise x v s) = kind.Promise
 trace_kind (line.Keep t) = kind.Keep
 trace_kind line.Show = kind.Show
 trace_kind line.EndTurn = kind.EndTurn
@@ -59,9 +64,9 @@ abbrev pub trace_numbers : Line → List ℕ
 trace_numbers (line.Turn i) = i ∷ []
 trace_numbers line.Next = []
 trace_numbers (line.Read t) = t ∷ []
-trace_numbers (line.Write f t) = f ∷ t ∷ []
-trace_numbers (line.Update f t) = f ∷ t ∷ []
-trace_numbers (line.Promise x v f t) = x ∷ v ∷ f ∷ t ∷ []
+trace_numbers (line.Write s) = s.from ∷ s.to ∷ []
+trace_numbers (line.Update s) = s.from ∷ s.to ∷ []
+trace_numbers (line.Promise x v s) = x ∷ v ∷ s.from ∷ s.to ∷ []
 trace_numbers (line.Keep t) = t ∷ []
 trace_numbers line.Show = []
 trace_numbers line.EndTurn = []

@@ -1,9 +1,12 @@
 // The lines of a job file: how one is read, and the lines of a trace.
 #![tactic(auto)]
 
+pub mod family;
+pub mod layer;
 pub mod reader;
 pub mod refusal;
 pub mod scope;
+pub mod span;
 pub mod trace;
 
 // The end of a message's span. Ends may grow wider than the other fields.

@@ -1,9 +1,12 @@
 // Reads one line after another from bytes.
-ghost use Rattle.std.specs.Prelude.{◌≡◌, ℕ, ◌+◌, ◌<◌, ◌≤◌, true, length, drop, IfOk};
-ghost use Rattle.lines.specs.Fields.{digit, plain_by, one_more, past, number, field, fields, line, letter, Within};
-ghost use Rattle.lines.specs.Reading.{listed, set_in, Passes, Reads, ReadsAll, numbers_of, read, unread};
+ghost use Rattle.std.specs.Prelude.{◌≡◌, ℕ, true, length, IfOk};
+ghost use Rattle.lines.specs.Fields.{digit, plain, one_more, past, number, field, fields, line, letter};
+ghost use Rattle.lines.specs.Reading.{with_last, Passes, Reads, read, unread};
+ghost use Rattle.lines.specs.Spelling.{InRange};
 
-#[derive(Clone, Copy)]
+use bounded::Bounded;
+
+#[derive(Clone, Copy, PartialEq, Eq, Debug)]
 pub enum LineFault {
     // letter, fields or line feed wrong or missing
     Form,
@@ -11,64 +14,42 @@ pub enum LineFault {
     Range,
 }
 
-// A field's number, none where it is above the largest of the field.
-#[derive(Clone, Copy)]
-struct Field {
-    number: Option<u32>,
-}
-
-// The numbers of a line's fields, none where one is above the largest of its field.
-#[derive(Clone, Copy)]
-struct Fields {
-    numbers: Option<[u32; 6]>,
-}
-
-// The largest number of each field of a line, of the first `count` places.
-#[derive(Clone, Copy)]
-pub struct Limits {
-    pub count: usize,
-    pub most: [u32; 6],
-}
+// A number for each field of a line.
+pub type Numbers = Bounded<u32, 6>;
 
 #[derive(Clone, Copy)]
 pub struct Reader<'a> {
     rest: &'a [u8],
 }
 
-fn is_digit(byte: u8) -> bool
-    ensures { result ≡ digit byte }
+// Whether digits are a number without a leading zero.
+fn is_plain(digits: &[u8]) -> bool
+    ensures { result ≡ plain digits.now }
 {
-    byte >= b'0' && byte <= b'9'
+    match digits {
+        [] => false,
+        [_] => true,
+        [first, ..] => *first != b'0',
+    }
 }
 
-// Whether digits have no leading zero, by their count and the first of them.
-fn is_plain(count: usize, first: u8) -> bool
-    ensures { result ≡ plain_by count first }
-{
-    count == 1 || (count > 1 && first != b'0')
-}
-
-// The number after one digit more.
+// The number after one digit more, none where it is above the largest.
 fn with_digit(number: Option<u32>, byte: u8, most: u32) -> Option<u32>
     requires { digit byte ≡ true }
     ensures { result ≡ one_more most number byte }
 {
-    let before = number?;
-    let after = 10 * before as u64 + (byte - b'0') as u64;
-    if after <= most as u64 {
-        Some(after as u32)
-    } else {
-        None
-    }
+    let after = number?
+        .checked_mul(10)?
+        .checked_add(u32::from(byte - b'0'))?;
+    (after <= most).then_some(after)
 }
 
-// The numbers with that of the field k.
-fn with_field(numbers: Option<[u32; 6]>, k: usize, field: Field) -> Option<[u32; 6]>
-    requires { k < 6 }
-    ensures { result ≡ set_in numbers k field.number }
+// The numbers with one more, none where one of them is.
+fn with_number(numbers: Option<Numbers>, number: Option<u32>) -> Option<Numbers>
+    ensures { result ≡ with_last numbers number }
 {
     let mut numbers = numbers?;
-    numbers[k] = field.number?;
+    numbers.push(number?).ok()?;
     Some(numbers)
 }
 
@@ -86,47 +67,38 @@ impl<'a> Reader<'a> {
         self.rest.len()
     }
 
-    fn skip(&mut self, n: usize)
-        requires { n ≤ length self.old.rest.now }
-        ensures { self.new.rest.now ≡ drop n self.old.rest.now }
-    {
-        let rest = self.rest;
-        self.rest = &rest[n..];
-    }
-
-    fn number(&mut self, most: u32) -> Option<Field>
+    // The number in front, none inside where it is above the largest.
+    fn number(&mut self, most: u32) -> Option<Option<u32>>
         ensures { Reads (number most self.old.rest.now) result self.new.rest.now }
     {
-        let bytes = self.rest;
         let mut number = Some(0);
-        let mut n = 0;
-        while n < bytes.len() {
-            let byte = bytes[n];
-            if !is_digit(byte) {
-                break;
-            }
-            number = with_digit(number, byte, most);
-            n += 1;
+        let mut rest = self.rest;
+        while let [digit @ b'0'..=b'9', after @ ..] = rest {
+            number = with_digit(number, *digit, most);
+            rest = after;
         }
-        if n == 0 || !is_plain(n, bytes[0]) {
+        let count = self.rest.len() - rest.len();
+        if !is_plain(&self.rest[..count]) {
             return None;
         }
-        self.skip(n);
-        Some(Field { number })
+        self.rest = rest;
+        Some(number)
     }
 
     // Passes a byte if it is the one that is wanted.
     fn pass(&mut self, wanted: u8) -> bool
         ensures { Passes (past wanted self.old.rest.now) result self.old.rest.now self.new.rest.now }
     {
-        if self.rest.is_empty() || self.rest[0] != wanted {
-            return false;
+        match self.rest {
+            [byte, after @ ..] if *byte == wanted => {
+                self.rest = after;
+                true
+            }
+            _ => false,
         }
-        self.skip(1);
-        true
     }
 
-    fn field(&mut self, most: u32) -> Option<Field>
+    fn field(&mut self, most: u32) -> Option<Option<u32>>
         ensures { Reads (field most self.old.rest.now) result self.new.rest.now }
     {
         if !self.pass(b' ') {
@@ -135,50 +107,49 @@ impl<'a> Reader<'a> {
         self.number(most)
     }
 
-    fn fields(&mut self, limits: Limits) -> Option<Fields>
-        ensures { ReadsAll limits.count (fields (listed limits) self.old.rest.now) result self.new.rest.now }
+    // The numbers of a line's fields, none inside where one is above the largest of its field.
+    fn fields(&mut self, limits: &Numbers) -> Option<Option<Numbers>>
+        ensures { Reads (fields limits.now self.old.rest.now) result self.new.rest.now }
     {
-        let mut numbers = Some([0; 6]);
-        let count = limits.count.min(6);
-        for (k, most) in limits.most[0..count].iter().enumerate() {
-            let field = self.field(*most)?;
-            numbers = with_field(numbers, k, field);
+        let mut numbers = Some(Numbers::new(0));
+        for most in limits.as_slice() {
+            let number = self.field(*most)?;
+            numbers = with_number(numbers, number);
         }
-        Some(Fields { numbers })
+        Some(numbers)
     }
 
     // The letter of the line that comes next.
     pub fn letter(&self) -> Option<char>
         ensures { result ≡ letter self.now.rest.now }
     {
-        if self.rest.is_empty() {
-            None
-        } else {
-            Some(self.rest[0] as char)
+        match self.rest {
+            [first, ..] => Some(*first as char),
+            [] => None,
         }
     }
 
-    // Reads a line with such fields, whatever its letter. A line that is refused is not passed.
-    pub fn line(&mut self, limits: Limits) -> Result<[u32; 6], LineFault>
-        ensures numbers { numbers_of limits.count result ≡ read (line (listed limits) self.old.rest.now) }
-        ensures left { self.new.rest.now ≡ unread (line (listed limits) self.old.rest.now) self.old.rest.now }
-        ensures within { IfOk result (λ vs. (length vs ≡ 6) × Within 0 (listed limits) vs) }
+    // Reads a line with a field for each of the largest numbers, whatever its letter.
+    // A line that is refused is not passed.
+    pub fn line(&mut self, limits: &Numbers) -> Result<Numbers, LineFault>
+        ensures numbers { result ≡ read (line limits.now self.old.rest.now) }
+        ensures left { self.new.rest.now ≡ unread (line limits.now self.old.rest.now) self.old.rest.now }
+        ensures within { IfOk result (λ vs. InRange limits.now vs) }
     {
-        if self.rest.is_empty() {
+        let [_, after @ ..] = self.rest else {
             return Err(LineFault::Form);
-        }
-        let mut line = *self;
-        line.skip(1);
-        let Some(fields) = line.fields(limits) else {
+        };
+        let mut line = Reader { rest: after };
+        let Some(numbers) = line.fields(limits) else {
             return Err(LineFault::Form);
         };
         if !line.pass(b'\n') {
             return Err(LineFault::Form);
         }
-        let Some(numbers) = fields.numbers else {
+        let Some(numbers) = numbers else {
             return Err(LineFault::Range);
         };
-        self.rest = line.rest;
+        *self = line;
         Ok(numbers)
     }
 }

@@ -2,6 +2,8 @@
 ghost use Rattle.std.specs.Prelude.{◌≡◌, ℕ, ◌≤◌, is_some, IfSome};
 ghost use Rattle.lines.specs.Scopes.{in_scope};
 
+use crate::{MOST_LOCATIONS, MOST_THREADS};
+
 #[derive(Clone, Copy)]
 pub struct Scope {
     threads: u8,
@@ -15,7 +17,7 @@ impl Scope {
         ensures test { is_some result ≡ in_scope threads locations }
         ensures made { IfSome result (λ s. (s.threads ≡ threads) × (s.locations ≡ locations)) }
     {
-        if threads >= 1 && threads <= 4 && locations >= 1 && locations <= 8 {
+        if (1..=MOST_THREADS).contains(&threads) && (1..=MOST_LOCATIONS).contains(&locations) {
             Some(Scope { threads, locations })
         } else {
             None

@@ -1,15 +1,16 @@
 // The lines of a trace.
-ghost use Rattle.std.specs.Prelude.{◌≡◌, ℕ};
-ghost use Rattle.lines.specs.Fields.{Within};
-ghost use Rattle.lines.specs.Families.{lookup, reads, OneSpelling};
-ghost use Rattle.lines.specs.Reading.{listed, read, unread};
-ghost use Rattle.lines.specs.TraceLines.{trace_letters, trace_limits, trace_make, trace_lines, TraceFits};
+ghost use Rattle.std.specs.Prelude.{◌≡◌, ◌≤◌, Some};
+ghost use Rattle.lines.specs.TraceLines.{trace_lines, TraceFits};
+ghost use Rattle.lines.specs.declared.trace.Line.{Line};
+ghost use Rattle.lines.specs.TraceCodec.{trace_codec};
 
-use crate::reader::{Limits, LineFault, Reader};
+use crate::family::Spelled;
+use crate::reader::Numbers;
 use crate::scope::Scope;
+use crate::span::Span;
 use crate::{End, MOST_END, MOST_VALUE};
 
-#[derive(Clone, Copy)]
+#[derive(Clone, Copy, PartialEq, Eq, Debug)]
 pub enum Line {
     // T i: begins the turn of a thread
     Turn {
@@ -23,20 +24,17 @@ pub enum Line {
     },
     // W f t: writes a message with the span (f, t]
     Write {
-        from: End,
-        to: End,
+        span: Span,
     },
     // U f t: reads the message that ends at f, and writes one with the span (f, t]
     Update {
-        from: End,
-        to: End,
+        span: Span,
     },
     // G x v f t: promises a message
     Promise {
         location: u8,
         value: u16,
-        from: End,
-        to: End,
+        span: Span,
     },
     // H t: keeps the promise that ends at t
     Keep {
@@ -49,7 +47,7 @@ pub enum Line {
 }
 
 #[derive(Clone, Copy)]
-enum Kind {
+pub enum Kind {
     Turn,
     Next,
     Read,
@@ -61,105 +59,85 @@ enum Kind {
     EndTurn,
 }
 
-fn kind_of(letter: char) -> Option<Kind>
-    ensures { result ≡ lookup trace_letters letter }
+// The span that two numbers make, none where one is too large for an end.
+fn span_of(from: u32, to: u32) -> Option<Span>
+    ensures { (from ≤ 65535) → (to ≤ 65535) → result ≡ Some (record { from = from; to = to }) }
 {
-    match letter {
-        'T' => Some(Kind::Turn),
-        'N' => Some(Kind::Next),
-        'R' => Some(Kind::Read),
-        'W' => Some(Kind::Write),
-        'U' => Some(Kind::Update),
-        'G' => Some(Kind::Promise),
-        'H' => Some(Kind::Keep),
-        'X' => Some(Kind::Show),
-        'E' => Some(Kind::EndTurn),
-        _ => None,
-    }
+    Some(Span {
+        from: End::try_from(from).ok()?,
+        to: End::try_from(to).ok()?,
+    })
 }
 
-fn limits(kind: Kind, scope: Scope) -> Limits
-    ensures { listed result ≡ trace_limits scope.threads scope.locations kind }
-{
-    match kind {
-        Kind::Turn => Limits {
-            count: 1,
-            most: [(scope.threads() - 1) as u32, 0, 0, 0, 0, 0],
-        },
-        Kind::Read | Kind::Keep => Limits {
-            count: 1,
-            most: [MOST_END, 0, 0, 0, 0, 0],
-        },
-        Kind::Write | Kind::Update => Limits {
-            count: 2,
-            most: [MOST_END, MOST_END, 0, 0, 0, 0],
-        },
-        Kind::Promise => Limits {
-            count: 4,
-            most: [
-                (scope.locations() - 1) as u32,
-                MOST_VALUE,
-                MOST_END,
-                MOST_END,
-                0,
-                0,
-            ],
-        },
-        Kind::Next | Kind::Show | Kind::EndTurn => Limits {
-            count: 0,
-            most: [0; 6],
-        },
-    }
-}
+impl Spelled for Line {
+    type Kind = Kind;
 
-fn line_of(kind: Kind, numbers: [u32; 6], scope: Scope) -> Line
-    requires { Within 0 (trace_limits scope.threads scope.locations kind) numbers }
-    ensures { result ≡ trace_make kind numbers }
-{
-    match kind {
-        Kind::Turn => Line::Turn {
-            thread: numbers[0] as u8,
-        },
-        Kind::Next => Line::Next,
-        Kind::Read => Line::Read {
-            end: numbers[0] as End,
-        },
-        Kind::Write => Line::Write {
-            from: numbers[0] as End,
-            to: numbers[1] as End,
-        },
-        Kind::Update => Line::Update {
-            from: numbers[0] as End,
-            to: numbers[1] as End,
-        },
-        Kind::Promise => Line::Promise {
-            location: numbers[0] as u8,
-            value: numbers[1] as u16,
-            from: numbers[2] as End,
-            to: numbers[3] as End,
-        },
-        Kind::Keep => Line::Keep {
-            end: numbers[0] as End,
-        },
-        Kind::Show => Line::Show,
-        Kind::EndTurn => Line::EndTurn,
-    }
-}
+    type Scope = Scope;
 
-impl Line {
-    // Reads the line in front. A line that is refused is not passed.
-    pub fn read(reader: &mut Reader, scope: Scope) -> Result<Line, LineFault>
-        ensures value { result ≡ read (reads (trace_lines scope.threads scope.locations) reader.old.rest.now) }
-        ensures left { reader.new.rest.now ≡ unread (reads (trace_lines scope.threads scope.locations) reader.old.rest.now) reader.old.rest.now }
-        ensures spelling { OneSpelling (trace_lines scope.threads scope.locations) (TraceFits scope.threads scope.locations) reader.old.rest.now result reader.new.rest.now }
-    {
-        let Some(letter) = reader.letter() else {
-            return Err(LineFault::Form);
-        };
-        let Some(kind) = kind_of(letter) else {
-            return Err(LineFault::Form);
-        };
-        let numbers = reader.line(limits(kind, scope))?;
-        Ok(line_of(kind, numbers, scope))
+    ghost Shown = { Line };
+
+    ghost shown = { λ a. a };
+
+    ghost family = { λ s. trace_lines s.threads s.locations };
+
+    ghost Fits = { λ s. TraceFits s.threads s.locations };
+
+    ghost codec = { λ s. trace_codec s.threads s.locations s.some_threads.1 s.some_locations.1 };
+
+    fn kind_of(letter: char) -> Option<Kind> {
+        match letter {
+            'T' => Some(Kind::Turn),
+            'N' => Some(Kind::Next),
+            'R' => Some(Kind::Read),
+            'W' => Some(Kind::Write),
+            'U' => Some(Kind::Update),
+            'G' => Some(Kind::Promise),
+            'H' => Some(Kind::Keep),
+            'X' => Some(Kind::Show),
+            'E' => Some(Kind::EndTurn),
+            _ => None,
+        }
+    }
+
+    fn limits(kind: Kind, scope: Scope) -> Numbers {
+        match kind {
+            Kind::Turn => Numbers::from_slice(&[u32::from(scope.threads() - 1)], 0),
+            Kind::Read | Kind::Keep => Numbers::from_slice(&[MOST_END], 0),
+            Kind::Write | Kind::Update => Numbers::from_slice(&[MOST_END, MOST_END], 0),
+            Kind::Promise => {
+                let last = u32::from(scope.locations() - 1);
+                Numbers::from_slice(&[last, MOST_VALUE, MOST_END, MOST_END], 0)
+            }
+            Kind::Next | Kind::Show | Kind::EndTurn => Numbers::new(0),
+        }
+    }
+
+    fn make(kind: Kind, numbers: &[u32]) -> Option<Line> {
+        match (kind, numbers) {
+            (Kind::Turn, [thread]) => Some(Line::Turn {
+                thread: u8::try_from(*thread).ok()?,
+            }),
+            (Kind::Next, []) => Some(Line::Next),
+            (Kind::Read, [end]) => Some(Line::Read {
+                end: End::try_from(*end).ok()?,
+            }),
+            (Kind::Write, [from, to]) => Some(Line::Write {
+                span: span_of(*from, *to)?,
+            }),
+            (Kind::Update, [from, to]) => Some(Line::Update {
+                span: span_of(*from, *to)?,
+            }),
+            (Kind::Promise, [location, value, from, to]) => Some(Line::Promise {
+                location: u8::try_from(*location).ok()?,
+                value: u16::try_from(*value).ok()?,
+                span: span_of(*from, *to)?,
+            }),
+            (Kind::Keep, [end]) => Some(Line::Keep {
+                end: End::try_from(*end).ok()?,
+            }),
+            (Kind::Show, []) => Some(Line::Show),
+            (Kind::EndTurn, []) => Some(Line::EndTurn),
+            _ => None,
+        }
     }
 }

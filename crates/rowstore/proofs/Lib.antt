@@ -1,5 +1,6 @@
+mod InPlace
+mod Ups
 mod Fronts
-mod RowScans
 mod Placed
 mod Orders
 mod Stored

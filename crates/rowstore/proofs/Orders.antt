@@ -1,33 +1,18 @@
 -- The rows of a list of messages answer as the list does.
 use Rattle.std.proofs.Common.{◌≡◌, ℕ, zero, suc, ◌+◌, ◌<◌, ◌≤◌, max, Bool, true, false, cond, not, ◌&&◌, eqb, List, [], ◌∷◌, ◌++◌, length, take, Some, None, Option, sym, refl, ap, ◌∙◌, inl, inr, arith}
 use Rattle.std.specs.List.{AllByRecursion as All}
+use Rattle.std.specs.Option.{option_or}
+use Rattle.std.proofs.Math.Bool.{and-true}
 use Rattle.std.proofs.lemmas.Bool.{cond-true, cond-false, eq-eqb, ne_eqb, cases_eq, cond_both, and_left}
+use Rattle.lines.specs.declared.span.Span.{Span}
 use Rattle.stores.specs.declared.message.Message.{Message}
 use Rattle.stores.specs.Memory.{ends_at, overlaps, find_from, find, is_free, greatest_end}
 use Rattle.rowstore.specs.declared.entry.Entry.{Entry}
-use Rattle.rowstore.specs.Entries.{InOrder, placed, number_at, clear, last_end, earlier}
+use Rattle.rowstore.specs.Entries.{placed, number_at, clear, last_end, earlier}
 use Rattle.rowstore.specs.Tables.{row_of, entry_of}
-use Rattle.rowstore.specs.Ordered.{ordered_from, ordered, fields}
-use Rattle.rowstore.proofs.Placed.{Up, up_order, up_placed, all_placed, length_placed, or_else, or_none, number_at_placed, clear_placed, last_end_placed, earlier_placed, earlier_all}
-
-abbrev entry : ℕ → ℕ → ℕ → ℕ → Entry
-entry l f t n = record { location = l; from = f; to = t; number = n }
-
-same_fields : (a b : Entry) → a.location ≡ b.location → a.from ≡ b.from → a.to ≡ b.to → a.number ≡ b.number → a ≡ b
-same_fields a b l f t n =
-    cong4 a.location b.location a.from b.from a.to b.to a.number b.number l f t n
-  where
-    cong4 : (l l' f f' t t' n n' : ℕ) → l ≡ l' → f ≡ f' → t ≡ t' → n ≡ n' → entry l f t n ≡ entry l' f' t' n'
-    cong4 l l' f f' t t' n n' p q r s = cc
-
--- entries with the same fields are the same
-pub same_entries : (as' bs : List Entry) → fields as' ≡ fields bs → as' ≡ bs
-same_entries [] [] h = refl
-same_entries [] (b ∷ bs) h = let z : ◌≡◌ {A = ℕ} 0 1 = cc in absurd (omega arith)
-same_entries (a ∷ as') [] h = let z : ◌≡◌ {A = ℕ} 0 1 = cc in absurd (omega arith)
-same_entries (a ∷ as') (b ∷ bs) h =
-    let one : a ≡ b = same_fields a b (cc) (cc) (cc) (cc) in
-    ap (λ (e : Entry). e ∷ as') one ∙ ap (λ (l : List Entry). b ∷ l) (same_entries as' bs (cc))
+use Rattle.rowstore.specs.Ordered.{ordered_from, ordered}
+use Rattle.rowstore.proofs.Ups.{Up}
+use Rattle.rowstore.proofs.Placed.{up_placed, all_placed, length_placed, or_none, both_more, number_at_placed, clear_placed, last_end_placed, earlier_placed, earlier_all}
 
 -- row y after the message that arrived as number k
 abbrev pub taken : ℕ → Message → ℕ → List Entry → List Entry
@@ -39,9 +24,6 @@ up_taken y m k es u = cond_both (eqb (row_of m.location) y) (placed (entry_of m 
 up_ordered_from : (y k : ℕ) (ms : List Message) (es : List Entry) → Up es → Up (ordered_from y k ms es)
 up_ordered_from y k [] es u = u
 up_ordered_from y k (m ∷ ms) es u = up_ordered_from y (k + 1) ms (taken y m k es) (up_taken y m k es u)
-
-pub order_ordered : (y : ℕ) (ms : List Message) → InOrder (ordered y ms)
-order_ordered y ms = up_order (ordered y ms) (up_ordered_from y 0 ms [] tt)
 
 length_taken : (y : ℕ) (m : Message) (k : ℕ) (es : List Entry) → length (taken y m k es) ≤ length es + 1
 length_taken y m k es =
@@ -92,56 +74,47 @@ elsewhere : (x : ℕ) (m : Message) → (row_of m.location ≡ row_of x → ⊥)
 elsewhere x m h = ne_eqb m.location x (λ e. h (ap row_of e))
 
 module _ (x t : ℕ) where
-  or_more : (b : Bool) (k : ℕ) (o r : Option ℕ) → or_else (or_else o (cond b (Some k) None)) r ≡ or_else o (cond b (Some k) r)
+  or_more : (b : Bool) (k : ℕ) (o r : Option ℕ) → option_or (option_or o (cond b (Some k) None)) r ≡ option_or o (cond b (Some k) r)
   or_more b k (Some j) r = refl
   or_more true k None r = refl
   or_more false k None r = refl
 
-  number_at_taken : (m : Message) (k : ℕ) (es : List Entry) → Up es → number_at x t (taken (row_of x) m k es) ≡ or_else (number_at x t es) (cond (ends_at x t m) (Some k) None)
+  number_at_taken : (m : Message) (k : ℕ) (es : List Entry) → Up es → number_at x t (taken (row_of x) m k es) ≡ option_or (number_at x t es) (cond (ends_at x t m) (Some k) None)
   number_at_taken m k es u = elim (cases_eq (row_of m.location) (row_of x)) [
     | inl e ↦ ap (number_at x t) (cond-true _ _ _ (eq-eqb _ _ e)) ∙ number_at_placed x t (entry_of m k) es u
-    | inr e ↦ ap (number_at x t) (cond-false _ _ _ (ne_eqb _ _ e)) ∙ or_none (number_at x t es) ∙ ap (or_else (number_at x t es)) (sym (cond-false _ _ _ (and_left _ _ (elsewhere x m e))))
+    | inr e ↦ ap (number_at x t) (cond-false _ _ _ (ne_eqb _ _ e)) ∙ or_none (number_at x t es) ∙ ap (option_or (number_at x t es)) (sym (cond-false _ _ _ (and_left _ _ (elsewhere x m e))))
   ]
 
-  number_at_ordered_from : (k : ℕ) (ms : List Message) (es : List Entry) → Up es → number_at x t (ordered_from (row_of x) k ms es) ≡ or_else (number_at x t es) (find_from k x t ms)
+  number_at_ordered_from : (k : ℕ) (ms : List Message) (es : List Entry) → Up es → number_at x t (ordered_from (row_of x) k ms es) ≡ option_or (number_at x t es) (find_from k x t ms)
   number_at_ordered_from k [] es u = or_none (number_at x t es)
   number_at_ordered_from k (m ∷ ms) es u =
-      number_at_ordered_from (k + 1) ms (taken (row_of x) m k es) (up_taken (row_of x) m k es u) ∙ ap (λ o. or_else o (find_from (k + 1) x t ms)) (number_at_taken m k es u) ∙ or_more (ends_at x t m) k (number_at x t es) (find_from (k + 1) x t ms)
+      number_at_ordered_from (k + 1) ms (taken (row_of x) m k es) (up_taken (row_of x) m k es u) ∙ ap (λ o. option_or o (find_from (k + 1) x t ms)) (number_at_taken m k es u) ∙ or_more (ends_at x t m) k (number_at x t es) (find_from (k + 1) x t ms)
 
   pub number_at_ordered : (ms : List Message) → number_at x t (ordered (row_of x) ms) ≡ find x t ms
   number_at_ordered ms = number_at_ordered_from 0 ms [] tt
 
-module _ (x f t : ℕ) where
-  both_more : (a b c : Bool) → ((a && b) && c) ≡ (b && (a && c))
-  both_more true b c = refl
-  both_more false true c = refl
-  both_more false false c = refl
-
-  clear_taken : (m : Message) (k : ℕ) (es : List Entry) → clear x f t (taken (row_of x) m k es) ≡ (not (overlaps x f t m) && clear x f t es)
+module _ (x : ℕ) (s : Span) where
+  clear_taken : (m : Message) (k : ℕ) (es : List Entry) → clear x s (taken (row_of x) m k es) ≡ (not (overlaps x s m) && clear x s es)
   clear_taken m k es = elim (cases_eq (row_of m.location) (row_of x)) [
-    | inl e ↦ ap (clear x f t) (cond-true _ _ _ (eq-eqb _ _ e)) ∙ clear_placed x f t (entry_of m k) es
-    | inr e ↦ ap (clear x f t) (cond-false _ _ _ (ne_eqb _ _ e)) ∙ ap (λ b. not b && clear x f t es) (sym (and_left _ _ (elsewhere x m e)))
+    | inl e ↦ ap (clear x s) (cond-true _ _ _ (eq-eqb _ _ e)) ∙ clear_placed x s (entry_of m k) es
+    | inr e ↦ ap (clear x s) (cond-false _ _ _ (ne_eqb _ _ e)) ∙ ap (λ b. not b && clear x s es) (sym (and_left _ _ (elsewhere x m e)))
   ]
 
-  clear_ordered_from : (k : ℕ) (ms : List Message) (es : List Entry) → clear x f t (ordered_from (row_of x) k ms es) ≡ (clear x f t es && is_free x f t ms)
-  clear_ordered_from k [] es = and_true (clear x f t es)
-    where
-      and_true : (b : Bool) → b ≡ (b && true)
-      and_true true = refl
-      and_true false = refl
+  clear_ordered_from : (k : ℕ) (ms : List Message) (es : List Entry) → clear x s (ordered_from (row_of x) k ms es) ≡ (clear x s es && is_free x s ms)
+  clear_ordered_from k [] es = sym (and-true (clear x s es))
   clear_ordered_from k (m ∷ ms) es =
-      clear_ordered_from (k + 1) ms (taken (row_of x) m k es) ∙ ap (λ b. b && is_free x f t ms) (clear_taken m k es) ∙ both_more (not (overlaps x f t m)) (clear x f t es) (is_free x f t ms)
+      clear_ordered_from (k + 1) ms (taken (row_of x) m k es) ∙ ap (λ b. b && is_free x s ms) (clear_taken m k es) ∙ both_more (not (overlaps x s m)) (clear x s es) (is_free x s ms)
 
-  pub clear_ordered : (ms : List Message) → clear x f t (ordered (row_of x) ms) ≡ is_free x f t ms
+  pub clear_ordered : (ms : List Message) → clear x s (ordered (row_of x) ms) ≡ is_free x s ms
   clear_ordered ms = clear_ordered_from 0 ms []
 
 module _ (x : ℕ) where
-  last_end_taken : (m : Message) (k : ℕ) (es : List Entry) → last_end x (taken (row_of x) m k es) ≡ max (cond (eqb m.location x) m.to 0) (last_end x es)
+  last_end_taken : (m : Message) (k : ℕ) (es : List Entry) → last_end x (taken (row_of x) m k es) ≡ max (cond (eqb m.location x) m.span.to 0) (last_end x es)
   last_end_taken m k es = elim (cases_eq (row_of m.location) (row_of x)) [
     | inl e ↦ ap (last_end x) (cond-true _ _ _ (eq-eqb _ _ e)) ∙ last_end_placed x (entry_of m k) es
     | inr e ↦
         let h = ap (last_end x) (cond-false _ (placed (entry_of m k) es) es (ne_eqb _ _ e)) in
-        let c = cond-false _ m.to 0 (elsewhere x m e) in
+        let c = cond-false _ m.span.to 0 (elsewhere x m e) in
         omega arith
   ]
 

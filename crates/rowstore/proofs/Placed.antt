@@ -1,129 +1,112 @@
 -- One entry more in a row.
-use Rattle.std.proofs.Common.{◌≡◌, ℕ, zero, suc, ◌+◌, ◌-◌, ◌<◌, ◌≤◌, max, Bool, true, false, cond, not, ◌&&◌, eqb, ltb, List, [], ◌∷◌, ◌++◌, length, get_or, take, drop, set, Some, None, Option, sym, refl, ap, ◌∙◌, subst, inl, inr, append_assoc, arith, length-drop, length-take}
-use lib.Seq.{paste, take-paste, take-set-lt}
+use Rattle.std.proofs.Common.{◌≡◌, ℕ, suc, ◌+◌, ◌<◌, ◌≤◌, max, Bool, true, false, cond, not, ◌&&◌, eqb, ltb, List, [], ◌∷◌, length, Some, None, Option, sym, refl, ap, ◌∙◌, subst, inl, inr, arith}
 use Rattle.std.specs.List.{insert, AllByRecursion as All}
-use Rattle.std.proofs.ByRecursion.{All-weaker, All-get_or}
-use Rattle.std.proofs.lemmas.List.{take_more, take-take, set_at}
-use Rattle.std.proofs.lemmas.Slice.{between_is}
-use Rattle.std.proofs.lemmas.List.Sums.{prefix_len-le-length}
+use Rattle.std.specs.Option.{option_or}
+use Rattle.std.proofs.ByRecursion.{All-weaker}
+use Rattle.std.proofs.Math.Bool.{and_assoc, and_comm}
 use Rattle.std.proofs.lemmas.Bool.{cond-true, cond-false, lt-ltb, le-ltb, le-leb, lt-leb, cases_lt, eqb-true, and_parts, cases_Bool}
+use Rattle.std.proofs.lemmas.List.Kept.{IsNonDecreasingBy-filter}
+use Rattle.std.proofs.lemmas.List.Filters.{length-filter_both}
+use Rattle.bounded.specs.Bounds.{insert_within}
+use Rattle.lines.specs.declared.span.Span.{Span}
 use Rattle.rowstore.specs.declared.entry.Entry.{Entry}
-use Rattle.rowstore.specs.declared.row.Row.{Row}
-use Rattle.rowstore.specs.Entries.{no_entry, listed, InOrder, before, placed, number_at, clear, last_end, with_entry, earlier}
-use Rattle.rowstore.proofs.RowScans.{number_at_none}
-
--- no entry ends before an earlier one, entry by entry
-abbrev pub Up : List Entry → Type 0
-Up [] = Unit {0}
-Up (e ∷ es) = All (λ a. e.to ≤ a.to) es × Up es
-
-pub up_order : (es : List Entry) → Up es → InOrder es
-up_order [] u i j h k = absurd (omega arith)
-up_order (e ∷ es) u zero zero h k = omega arith
-up_order (e ∷ es) u zero (suc j) h k = All-get_or (λ (a : Entry). e.to ≤ a.to) es j no_entry (omega arith) u.0
-up_order (e ∷ es) u (suc i) zero h k = absurd (omega arith)
-up_order (e ∷ es) u (suc i) (suc j) h k = up_order es u.1 i j (omega arith) (omega arith)
+use Rattle.rowstore.specs.Entries.{WellFormed, before, placed, number_at, clear, last_end, earlier}
+use Rattle.rowstore.proofs.Ups.{Up, up_from_order, order_from_up}
+use Rattle.rowstore.proofs.Fronts.{number_at_none}
 
 module _ (e : Entry) where
-  placed_after : (a : Entry) (es : List Entry) → a.to ≤ e.to → placed e (a ∷ es) ≡ a ∷ placed e es
-  placed_after a es h = cond-true _ _ _ (le-leb a.to e.to h)
+  placed_after : (a : Entry) (es : List Entry) → a.span.to ≤ e.span.to → placed e (a ∷ es) ≡ a ∷ placed e es
+  placed_after a es h = cond-true _ _ _ (le-leb a.span.to e.span.to h)
 
-  placed_before : (a : Entry) (es : List Entry) → e.to < a.to → placed e (a ∷ es) ≡ e ∷ a ∷ es
-  placed_before a es h = cond-false _ _ _ (lt-leb a.to e.to h)
+  placed_before : (a : Entry) (es : List Entry) → e.span.to < a.span.to → placed e (a ∷ es) ≡ e ∷ a ∷ es
+  placed_before a es h = cond-false _ _ _ (lt-leb a.span.to e.span.to h)
 
   pub all_placed : (P : Entry → Type 0) (es : List Entry) → P e → All P es → All P (placed e es)
   all_placed P [] p h = (p, tt)
-  all_placed P (a ∷ es) p h = elim (cases_lt e.to a.to) [
+  all_placed P (a ∷ es) p h = elim (cases_lt e.span.to a.span.to) [
     | inl l ↦ subst (All P) (sym (placed_before a es l)) (p, h)
     | inr l ↦ subst (All P) (sym (placed_after a es l)) (h.0, all_placed P es p h.1)
   ]
 
   pub up_placed : (es : List Entry) → Up es → Up (placed e es)
   up_placed [] u = (tt, tt)
-  up_placed (a ∷ es) u = elim (cases_lt e.to a.to) [
+  up_placed (a ∷ es) u = elim (cases_lt e.span.to a.span.to) [
     | inl l ↦
-        subst Up (sym (placed_before a es l)) ((omega arith, All-weaker (λ (b : Entry). a.to ≤ b.to) (λ (b : Entry). e.to ≤ b.to) (λ b h. omega arith) es u.0), u)
-    | inr l ↦ subst Up (sym (placed_after a es l)) (all_placed (λ (b : Entry). a.to ≤ b.to) es l u.0, up_placed es u.1)
+        subst Up (sym (placed_before a es l)) ((omega arith, All-weaker (λ (b : Entry). a.span.to ≤ b.span.to) (λ (b : Entry). e.span.to ≤ b.span.to) (λ b h. omega arith) es u.0), u)
+    | inr l ↦ subst Up (sym (placed_after a es l)) (all_placed (λ (b : Entry). a.span.to ≤ b.span.to) es l u.0, up_placed es u.1)
   ]
 
   pub length_placed : (es : List Entry) → length (placed e es) ≡ length es + 1
   length_placed [] = omega arith
-  length_placed (a ∷ es) = elim (cases_lt e.to a.to) [
+  length_placed (a ∷ es) = elim (cases_lt e.span.to a.span.to) [
     | inl l ↦ let p = ap length (placed_before a es l) in omega arith
     | inr l ↦ let p = ap length (placed_after a es l) in let h = length_placed es in omega arith
   ]
 
   -- its place is after those that end before the next end
-  pub placed_is : (es : List Entry) → placed e es ≡ insert es (before (e.to + 1) es) e
+  pub placed_is : (es : List Entry) → placed e es ≡ insert es (before (e.span.to + 1) es) e
   placed_is [] = refl
-  placed_is (a ∷ es) = elim (cases_lt e.to a.to) [
+  placed_is (a ∷ es) = elim (cases_lt e.span.to a.span.to) [
     | inl l ↦
-        let none : before (e.to + 1) (a ∷ es) ≡ 0 = cond-false _ _ _ (le-ltb a.to (e.to + 1) (omega arith)) in
+        let none : before (e.span.to + 1) (a ∷ es) ≡ 0 = cond-false _ _ _ (le-ltb a.span.to (e.span.to + 1) (omega arith)) in
         placed_before a es l ∙ ap (λ n. insert (a ∷ es) n e) (sym none)
     | inr l ↦
-        let one : before (e.to + 1) (a ∷ es) ≡ 1 + before (e.to + 1) es = cond-true _ _ _ (lt-ltb a.to (e.to + 1) (omega arith)) in
-        let more : before (e.to + 1) (a ∷ es) ≡ suc (before (e.to + 1) es) = omega arith in
+        let one : before (e.span.to + 1) (a ∷ es) ≡ 1 + before (e.span.to + 1) es = cond-true _ _ _ (lt-ltb a.span.to (e.span.to + 1) (omega arith)) in
+        let more : before (e.span.to + 1) (a ∷ es) ≡ suc (before (e.span.to + 1) es) = omega arith in
         placed_after a es l ∙ ap (λ (l : List Entry). a ∷ l) (placed_is es) ∙ ap (λ n. insert (a ∷ es) n e) (sym more)
   ]
 
--- the first answer, or else the second
-abbrev pub or_else : Option ℕ → Option ℕ → Option ℕ
-or_else None r = r
-or_else (Some k) r = Some k
-
-pub or_none : (o : Option ℕ) → o ≡ or_else o None
+pub or_none : (o : Option ℕ) → o ≡ option_or o None
 or_none None = refl
 or_none (Some k) = refl
 
-or_cond : (b : Bool) (k : ℕ) (o r : Option ℕ) → cond b (Some k) (or_else o r) ≡ or_else (cond b (Some k) o) r
+or_cond : (b : Bool) (k : ℕ) (o r : Option ℕ) → cond b (Some k) (option_or o r) ≡ option_or (cond b (Some k) o) r
 or_cond true k o r = refl
 or_cond false k o r = refl
 
-both_swap : (a b : Bool) (c : Bool) → (a && (b && c)) ≡ (b && (a && c))
-both_swap true b c = refl
-both_swap false true c = refl
-both_swap false false c = refl
+pub both_more : (a b c : Bool) → ((a && b) && c) ≡ (b && (a && c))
+both_more a b c = ap (λ d. d && c) (and_comm a b) ∙ and_assoc b a c
 
 module _ (x t : ℕ) (e : Entry) where
   abbrev asked : Entry → Bool
-  asked a = eqb a.location x && eqb a.to t
+  asked a = eqb a.location x && eqb a.span.to t
 
   -- of several with one end the first to arrive is found
-  pub number_at_placed : (es : List Entry) → Up es → number_at x t (placed e es) ≡ or_else (number_at x t es) (cond (asked e) (Some e.number) None)
+  pub number_at_placed : (es : List Entry) → Up es → number_at x t (placed e es) ≡ option_or (number_at x t es) (cond (asked e) (Some e.number) None)
   number_at_placed [] u = refl
-  number_at_placed (a ∷ es) u = elim (cases_lt e.to a.to) [
+  number_at_placed (a ∷ es) u = elim (cases_lt e.span.to a.span.to) [
     | inl l ↦ ap (number_at x t) (placed_before e a es l) ∙ early l
     | inr l ↦
         ap (number_at x t) (placed_after e a es l) ∙ ap (cond (asked a) (Some a.number)) (number_at_placed es u.1) ∙ or_cond (asked a) a.number (number_at x t es) (cond (asked e) (Some e.number) None)
   ]
     where
-      early : e.to < a.to → cond (asked e) (Some e.number) (number_at x t (a ∷ es)) ≡ or_else (number_at x t (a ∷ es)) (cond (asked e) (Some e.number) None)
+      early : e.span.to < a.span.to → cond (asked e) (Some e.number) (number_at x t (a ∷ es)) ≡ option_or (number_at x t (a ∷ es)) (cond (asked e) (Some e.number) None)
       early l = elim (cases_Bool (asked e)) [
         | inl y ↦
-            let ends : e.to ≡ t = eqb-true e.to t (and_parts (eqb e.location x) (eqb e.to t) y).1 in
-            let later : All (λ (b : Entry). t < b.to) (a ∷ es) = (omega arith, All-weaker (λ (b : Entry). a.to ≤ b.to) (λ (b : Entry). t < b.to) (λ b h. omega arith) es u.0) in
+            let ends : e.span.to ≡ t = eqb-true e.span.to t (and_parts (eqb e.location x) (eqb e.span.to t) y).1 in
+            let later : All (λ (b : Entry). t < b.span.to) (a ∷ es) = (omega arith, All-weaker (λ (b : Entry). a.span.to ≤ b.span.to) (λ (b : Entry). t < b.span.to) (λ b h. omega arith) es u.0) in
             let none = number_at_none x t (a ∷ es) later in
-            ap (cond (asked e) (Some e.number)) none ∙ ap (λ o. or_else o (cond (asked e) (Some e.number) None)) (sym none)
+            ap (cond (asked e) (Some e.number)) none ∙ ap (λ o. option_or o (cond (asked e) (Some e.number) None)) (sym none)
         | inr n ↦
-            cond-false _ _ _ n ∙ or_none (number_at x t (a ∷ es)) ∙ ap (or_else (number_at x t (a ∷ es))) (sym (cond-false _ _ _ n))
+            cond-false _ _ _ n ∙ or_none (number_at x t (a ∷ es)) ∙ ap (option_or (number_at x t (a ∷ es))) (sym (cond-false _ _ _ n))
       ]
 
-module _ (x f t : ℕ) (e : Entry) where
+module _ (x : ℕ) (s : Span) (e : Entry) where
   abbrev misses : Entry → Bool
-  misses a = not (eqb a.location x && (ltb f a.to && ltb a.from t))
+  misses a = not (eqb a.location x && (ltb s.from a.span.to && ltb a.span.from s.to))
 
-  pub clear_placed : (es : List Entry) → clear x f t (placed e es) ≡ (misses e && clear x f t es)
+  pub clear_placed : (es : List Entry) → clear x s (placed e es) ≡ (misses e && clear x s es)
   clear_placed [] = refl
-  clear_placed (a ∷ es) = elim (cases_lt e.to a.to) [
-    | inl l ↦ ap (clear x f t) (placed_before e a es l)
+  clear_placed (a ∷ es) = elim (cases_lt e.span.to a.span.to) [
+    | inl l ↦ ap (clear x s) (placed_before e a es l)
     | inr l ↦
-        ap (clear x f t) (placed_after e a es l) ∙ ap (λ b. misses a && b) (clear_placed es) ∙ both_swap (misses a) (misses e) (clear x f t es)
+        ap (clear x s) (placed_after e a es l) ∙ ap (λ b. misses a && b) (clear_placed es) ∙ sym (and_assoc (misses a) (misses e) (clear x s es)) ∙ both_more (misses a) (misses e) (clear x s es)
   ]
 
 module _ (x : ℕ) (e : Entry) where
-  pub last_end_placed : (es : List Entry) → last_end x (placed e es) ≡ max (cond (eqb e.location x) e.to 0) (last_end x es)
+  pub last_end_placed : (es : List Entry) → last_end x (placed e es) ≡ max (cond (eqb e.location x) e.span.to 0) (last_end x es)
   last_end_placed [] = refl
-  last_end_placed (a ∷ es) = elim (cases_lt e.to a.to) [
+  last_end_placed (a ∷ es) = elim (cases_lt e.span.to a.span.to) [
     | inl l ↦ ap (last_end x) (placed_before e a es l)
     | inr l ↦ let p = ap (last_end x) (placed_after e a es l) in let h = last_end_placed es in omega arith
   ]
@@ -138,7 +121,7 @@ module _ (n : ℕ) where
 
       by : (as' : List Entry) → earlier n (placed e as') ≡ earlier n as'
       by [] = drops []
-      by (a ∷ as') = elim (cases_lt e.to a.to) [
+      by (a ∷ as') = elim (cases_lt e.span.to a.span.to) [
         | inl l ↦ ap (earlier n) (placed_before e a as' l) ∙ drops (a ∷ as')
         | inr l ↦ ap (earlier n) (placed_after e a as' l) ∙ ap (λ (l : List Entry). cond (ltb a.number n) (a ∷ l) l) (by as')
       ]
@@ -148,23 +131,17 @@ module _ (n : ℕ) where
   earlier_all (e ∷ es) h =
       cond-true _ _ _ (lt-ltb e.number n h.0) ∙ ap (λ (l : List Entry). e ∷ l) (earlier_all es h.1)
 
-pub before_within : (t : ℕ) (w : Row) → before t (listed w) ≤ w.len
-before_within t w =
-    let l = prefix_len-le-length (λ (a : Entry). ltb a.to t) (listed w) in
-    let k = length-take w.len w.entries in
-    omega arith
+-- the bounded list takes an entry where a row has room, at its place
+pub inserted : (es : List Entry) (n : ℕ) (e : Entry) → length es < 64 → n ≡ before (e.span.to + 1) es → insert_within 64 es n e ≡ placed e es
+inserted es n e room is = cond-true _ _ _ (lt-ltb (length es) 64 room) ∙ ap (λ k. insert es k e) is ∙ sym (placed_is e es)
 
--- what stands in the row after an insertion
-pub listed_with_entry : (w : Row) (e : Entry) → length w.entries ≡ 64 → w.len < 64 → listed (with_entry w e) ≡ placed e (listed w)
-listed_with_entry w e whole room =
-    let es = w.entries in
-    let i = before (e.to + 1) (listed w) in
-    let far : i ≤ w.len = before_within (e.to + 1) w in
-    let n = w.len - i in
-    let moved = drop i es in
-    let sum : w.len + 1 ≡ i + 1 + n = omega arith in
-    let front : take (w.len + 1) (paste es (i + 1) moved n) ≡ take (i + 1) es ++ take n moved =
-    ap (λ k. take k (paste es (i + 1) moved n)) sum ∙ take-paste es (i + 1) moved n (omega arith) (let l = length-drop i es in omega arith) in
-    let first : take (i + 1) es ++ take n moved ≡ take i es ++ get_or es i no_entry ∷ take n moved =
-    ap (λ l. l ++ take n moved) (take_more es i no_entry (omega arith)) ∙ append_assoc (take i es) (get_or es i no_entry ∷ []) (take n moved) in
-    take-set-lt (w.len + 1) (paste es (i + 1) moved n) i e (omega arith) ∙ ap (λ l. set l i e) (front ∙ first) ∙ set_at (take i es) (get_or es i no_entry) (take n moved) e i (let l = length-take i es in omega arith) ∙ ap (λ l. l ++ e ∷ take n moved) (sym (take-take i w.len es far)) ∙ ap (λ l. take i (listed w) ++ e ∷ l) (between_is es i w.len) ∙ sym (placed_is e (listed w))
+pub formed_placed : (es : List Entry) (e : Entry) → length es < 64 → WellFormed es → WellFormed (placed e es)
+formed_placed es e room h =
+    let l = length_placed e es in
+    record { fits = omega arith; order = order_from_up (placed e es) (up_placed e es (up_from_order es h.order)) }
+
+pub formed_earlier : (n : ℕ) (es : List Entry) → WellFormed es → WellFormed (earlier n es)
+formed_earlier n es h =
+    let p = λ (e : Entry). ltb e.number n in
+    let l = length-filter_both p (λ e. not (p e)) (λ _. refl) es in
+    record { fits = omega (arith, h.fits); order = IsNonDecreasingBy-filter (λ (e : Entry). e.span.to) p es h.order }

@@ -1,34 +1,28 @@
 -- The nine rows of an index.
-use Rattle.std.specs.Prelude.{◌≡◌, ℕ, ◌≤◌, min, length, replicate, slice_index_or, slice_set}
+use Rattle.std.specs.Prelude.{ℕ, min, List, [], map, replicate, slice_index_or, slice_set}
 use Rattle.stores.specs.declared.message.Message.{Message}
 use Rattle.rowstore.specs.declared.entry.Entry.{Entry}
-use Rattle.rowstore.specs.declared.row.Row.{Row}
 use Rattle.rowstore.specs.declared.index.Index.{Index}
-use Rattle.rowstore.specs.Entries.{no_entry, listed, with_entry, earlier}
+use Rattle.rowstore.specs.Entries.{placed, earlier}
 
 -- the row of a location: its own for each of eight, and the ninth for all others
 abbrev pub row_of : ℕ → ℕ
 row_of x = min x 8
 
-abbrev pub empty_row : Row
-empty_row = record { entries = replicate 64 no_entry; len = 0 }
-
 abbrev pub empty : Index
-empty = record { table = record { rows = replicate 9 empty_row } }
+empty = record { table = record { rows = replicate 9 [] } }
 
-abbrev pub row_at : Index → ℕ → Row
-row_at b y = slice_index_or b.table.rows y empty_row
+abbrev pub row_at : Index → ℕ → List Entry
+row_at b y = slice_index_or b.table.rows y []
 
 abbrev pub entry_of : Message → ℕ → Entry
-entry_of m k = record { location = m.location; from = m.from; to = m.to; number = k }
+entry_of m k = record { location = m.location; span = m.span; number = k }
 
 -- the message that arrived as number k in the row of its location
 abbrev pub with_message : Index → Message → ℕ → Index
 with_message b m k =
-    record { table = record { rows = slice_set b.table.rows (row_of m.location) (with_entry (row_at b (row_of m.location)) (entry_of m k)) } }
+    record { table = record { rows = slice_set b.table.rows (row_of m.location) (placed (entry_of m k) (row_at b (row_of m.location))) } }
 
--- w' has the entries of w whose arrival number is below n
-pub record KeptBelow (n : ℕ) (w w' : Row) : Type 0 where
-  pub list : listed w' ≡ earlier n (listed w)
-  pub whole : length w'.entries ≡ 64
-  pub fits : w'.len ≤ 64
+-- each row without the entries whose arrival number is n or more
+abbrev pub only_earlier : ℕ → Index → Index
+only_earlier n b = record { table = record { rows = map (earlier n) b.table.rows } }

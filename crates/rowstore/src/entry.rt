@@ -1,10 +1,9 @@
-// What a row keeps of a message: its span, its location and its arrival number.
-use lines::End;
+// What a row keeps of a message: its location, its span and its arrival number.
+use lines::span::Span;
 
 #[derive(Clone, Copy)]
 pub struct Entry {
-    pub from: End,
-    pub to: End,
     pub location: u8,
+    pub span: Span,
     pub number: u8,
 }

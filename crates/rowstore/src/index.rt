@@ -1,18 +1,18 @@
 // The rows of all messages, with no invariant of their own: one of them can be lent from here.
-ghost use Rattle.std.specs.Prelude.{◌≡◌, ℕ, ◌<◌, length};
-ghost use Rattle.rowstore.specs.Entries.{WellFormed};
-ghost use Rattle.rowstore.specs.Tables.{row_of, row_at, with_message, empty, KeptBelow};
+ghost use Rattle.std.specs.Prelude.{◌≡◌, ◌<◌, length};
+ghost use Rattle.rowstore.specs.Tables.{row_of, row_at, with_message, empty, only_earlier};
 
 use crate::entry::Entry;
-use crate::row::{CAPACITY, Row};
+use crate::row::Row;
 use crate::table::Table;
+use std::array;
 use stores::message::Message;
 
 const LOCATIONS: u8 = 8;
 
 const ROWS: usize = 9;
 
-#[derive(Clone, Copy)]
+#[derive(Drop)]
 pub struct Index {
     pub table: Table<Row, ROWS>,
 }
@@ -28,18 +28,10 @@ impl Index {
     pub(crate) fn new() -> Index
         ensures { result ≡ empty }
     {
-        let entry = Entry {
-            location: 0,
-            from: 0,
-            to: 0,
-            number: 0,
-        };
-        let row = Row {
-            entries: [entry; CAPACITY],
-            len: 0,
-        };
         Index {
-            table: Table { rows: [row; ROWS] },
+            table: Table {
+                rows: array::from_fn(|_| Row::new()),
+            },
         }
     }
 
@@ -52,27 +44,24 @@ impl Index {
 
     // the message that arrived as that number goes into the row of its location
     pub(crate) fn add(&mut self, message: Message, number: u8)
-        requires formed { WellFormed (row_at self.old (row_of message.location)) }
-        requires room { (row_at self.old (row_of message.location)).len < 64 }
+        requires { length (row_at self.old (row_of message.location)) < 64 }
         ensures after { self.new ≡ with_message self.old message number }
         ensures rows { length self.old.table.rows ≡ 9 }
     {
         let row = self.table.row_mut(row_of(message.location));
         row.insert(Entry {
             location: message.location,
-            from: message.from,
-            to: message.to,
+            span: message.span,
             number,
         });
     }
 
     // drops the messages whose arrival number is n or more
     pub(crate) fn keep(&mut self, n: usize)
-        requires { (y : ℕ) → y < 9 → WellFormed (row_at self.old y) }
-        ensures { (y : ℕ) → y < 9 → KeptBelow n (row_at self.old y) (row_at self.new y) }
+        ensures { self.new ≡ only_earlier n self.old }
     {
-        for y in 0..ROWS {
-            self.table.row_mut(y).keep(n);
+        for row in self.table.rows.iter_mut() {
+            row.keep(n);
         }
     }
 }

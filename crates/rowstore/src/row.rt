@@ -1,110 +1,117 @@
 // A row: entries in order of their ends.
-ghost use Rattle.std.specs.Prelude.{◌≡◌, ◌<◌, ◌≤◌, length};
-ghost use Rattle.rowstore.specs.Entries.{WellFormed, listed, before, number_at, clear, last_end, with_entry, earlier};
+ghost use Rattle.std.specs.Prelude.{◌≡◌, ◌<◌, ◌≤◌, [], length, nat_lt};
+ghost use Rattle.rowstore.specs.Entries.{before, number_at, clear, last_end, placed, earlier};
 
 use crate::entry::Entry;
+use bounded::{Bounded, Choice};
 use lines::End;
+use lines::span::Span;
+use std::marker::Model;
 
-pub const CAPACITY: usize = 64;
-
+// Entries that arrived before a number.
 #[derive(Clone, Copy)]
+struct Earlier {
+    number: usize,
+}
+
+impl Choice<Entry> for Earlier {
+    ghost chooses = { λ s e. nat_lt e.number s.number };
+
+    fn chooses(self, entry: Entry) -> bool {
+        usize::from(entry.number) < self.number
+    }
+}
+
+#[derive(Drop)]
 pub struct Row {
-    pub entries: [Entry; CAPACITY],
-    pub len: usize,
+    entries: Bounded<Entry, 64>,
+}
+
+// Clauses see the entries, and each row has them in order.
+impl Model for Row {
+    ghost use Rattle.std.specs.Prelude.{List};
+    ghost use Rattle.rowstore.specs.declared.entry.Entry.{Entry};
+    ghost use Rattle.rowstore.specs.Entries.{WellFormed};
+
+    ghost Value = { List Entry };
+
+    ghost view = { λ r. r.entries };
+
+    ghost invariant = { λ r. WellFormed r.entries };
 }
 
 impl Row {
+    pub(crate) fn new() -> Row
+        ensures { result ≡ [] }
+    {
+        let filler = Entry {
+            location: 0,
+            span: Span { from: 0, to: 0 },
+            number: 0,
+        };
+        Row {
+            entries: Bounded::new(filler),
+        }
+    }
+
     // how many entries end before the limit, by halving
     pub(crate) fn before(&self, limit: u32) -> usize
-        requires { WellFormed self.now }
-        ensures value { result ≡ before limit (listed self.now) }
-        ensures within { result ≤ self.now.len }
+        ensures value { result ≡ before limit self.now }
+        ensures within { result ≤ length self.now }
     {
-        let mut low = 0;
-        let mut high = self.len;
-        while low < high {
-            let middle = low + (high - low) / 2;
-            if u32::from(self.entries[middle].to) < limit {
-                low = middle + 1;
-            } else {
-                high = middle;
-            }
-        }
-        low
+        self.entries
+            .as_slice()
+            .partition_point(|e| u32::from(e.span.to) < limit)
     }
 
     // the arrival number of the first entry of the location with that end
     pub(crate) fn find(&self, location: u8, end: End) -> Option<usize>
-        requires { WellFormed self.now }
-        ensures { result ≡ number_at location end (listed self.now) }
+        ensures { result ≡ number_at location end self.now }
     {
         let start = self.before(u32::from(end));
-        for e in &self.entries[start..self.len] {
-            if e.to > end {
-                return None;
-            }
-            if e.location == location {
-                return Some(usize::from(e.number));
-            }
-        }
-        None
+        self.entries.as_slice()[start..]
+            .iter()
+            .take_while(|e| e.span.to == end)
+            .find(|e| e.location == location)
+            .map(|e| usize::from(e.number))
     }
 
-    // whether (from, to] overlaps no entry of the location
-    pub(crate) fn is_free(&self, location: u8, from: End, to: End) -> bool
-        requires { WellFormed self.now }
-        ensures { result ≡ clear location from to (listed self.now) }
+    // whether the span overlaps no entry of the location
+    pub(crate) fn is_free(&self, location: u8, span: Span) -> bool
+        ensures { result ≡ clear location span self.now }
     {
-        let start = self.before(u32::from(from) + 1);
-        for e in &self.entries[start..self.len] {
-            if e.location == location && e.from < to {
-                return false;
-            }
-        }
-        true
+        let start = self.before(u32::from(span.from) + 1);
+        !self.entries.as_slice()[start..]
+            .iter()
+            .any(|e| e.location == location && e.span.from < span.to)
     }
 
     // the end of the last entry of the location, else 0
     pub(crate) fn greatest_end(&self, location: u8) -> End
-        requires { WellFormed self.now }
-        ensures { result ≡ last_end location (listed self.now) }
+        ensures { result ≡ last_end location self.now }
     {
-        for i in (0..self.len).rev() {
-            let e = self.entries[i];
-            if e.location == location {
-                return e.to;
-            }
-        }
-        0
+        self.entries
+            .as_slice()
+            .iter()
+            .rev()
+            .find(|e| e.location == location)
+            .map_or(0, |e| e.span.to)
     }
 
     // puts the entry after those that end no later
     pub(crate) fn insert(&mut self, entry: Entry)
-        requires well_formed { WellFormed self.old }
-        requires len_bound { self.old.len < 64 }
-        ensures { self.new ≡ with_entry self.old entry }
+        requires { length self.old < 64 }
+        ensures { self.new ≡ placed entry self.old }
     {
-        let place = self.before(u32::from(entry.to) + 1);
-        self.entries.copy_within(place..self.len, place + 1);
-        self.entries[place] = entry;
-        self.len += 1;
+        let place = self.before(u32::from(entry.span.to) + 1);
+        // never refused, as there is room
+        let _ = self.entries.insert(place, entry);
     }
 
     // drops the entries whose arrival number is n or more
     pub(crate) fn keep(&mut self, n: usize)
-        requires { WellFormed self.old }
-        ensures list { listed self.new ≡ earlier n (listed self.old) }
-        ensures whole { length self.new.entries ≡ 64 }
-        ensures fits { self.new.len ≤ 64 }
+        ensures { self.new ≡ earlier n self.old }
     {
-        let mut count = 0;
-        for i in 0..self.len {
-            let e = self.entries[i];
-            if usize::from(e.number) < n {
-                self.entries[count] = e;
-                count += 1;
-            }
-        }
-        self.len = count;
+        self.entries.retain(Earlier { number: n });
     }
 }

@@ -1,10 +1,11 @@
 // The row store: the messages as they arrived, and a row for each location in order of their ends.
-ghost use Rattle.std.specs.Prelude.{◌≡◌, [], take};
-ghost use Rattle.rowstore.specs.Ordered.{Indexed, Whole, Fits};
-ghost use Rattle.std.proofs.Common.{rules, arith};
+ghost use Rattle.std.specs.Prelude.{◌≡◌, []};
+ghost use Rattle.rowstore.specs.Ordered.{Indexed};
+ghost use Rattle.std.proofs.Common.{rules};
 
 use crate::index::Index;
 use lines::End;
+use lines::span::Span;
 use stores::flat::Flat;
 use stores::kept::{Kept, StoreFault};
 use stores::message::Message;
@@ -14,14 +15,12 @@ use stores::store::Store;
 pub struct Rows {
     arrivals: Flat,
     index: Index,
-    ghost indexed: { Indexed (take arrivals.len arrivals.items) index },
-    ghost whole: { Whole index },
-    ghost fits: { Fits index },
+    ghost indexed: { Indexed arrivals.messages index },
 }
 
 impl Rows {
     pub fn new() -> Rows
-        ensures { take result.arrivals.len result.arrivals.items ≡ [] }
+        ensures { result.arrivals.messages ≡ [] }
     {
         Rows {
             arrivals: Flat::new(),
@@ -31,13 +30,13 @@ impl Rows {
 }
 
 impl Store for Rows {
-    ghost held = { λ s. take s.arrivals.len s.arrivals.items };
+    ghost held = { λ s. s.arrivals.messages };
 
     ghost capacity = { λ _. 64 };
 
-    ghost bounded = { first_of (Prim.search rules, Prim.grind (arith, Self.row.coded.inj)) };
+    ghost bounded = { Prim.search rules };
 
-    ghost small = { first_of (Prim.search rules, Prim.grind (arith, Self.row.coded.inj)) };
+    ghost small = { Prim.search rules };
 
     fn add(&mut self, message: Message) -> Result<(), StoreFault> {
         let number = self.arrivals.len();
@@ -50,8 +49,8 @@ impl Store for Rows {
         self.index.row(location).find(location, end)
     }
 
-    fn is_free(&self, location: u8, from: End, to: End) -> bool {
-        self.index.row(location).is_free(location, from, to)
+    fn is_free(&self, location: u8, span: Span) -> bool {
+        self.index.row(location).is_free(location, span)
     }
 
     fn greatest_end(&self, location: u8) -> End {

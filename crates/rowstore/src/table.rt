@@ -3,7 +3,7 @@ ghost use Rattle.std.specs.Prelude.{◌≡◌, ◌<◌, length, slice_index_or, 
 ghost use Rattle.std.specs.Borrow.{sem, follows};
 ghost use Rattle.rowstore.specs.contracts.table.Table.{the_row as table_row};
 
-#[derive(Clone, Copy)]
+#[derive(Drop)]
 pub struct Table<R, const N: usize> {
     pub rows: [R; N],
 }
@@ -25,8 +25,6 @@ impl<R, const N: usize> Table<R, N> {
         ensures value { (d : R) → result.now ≡ slice_index_or self.now.rows i d }
         ensures len { length self.now.rows ≡ N }
     {
-        let rows = &self.rows;
-        let all = &rows[..];
-        &all[i]
+        &self.rows[i]
     }
 }

@@ -1,10 +1,11 @@
 // Every question asked of the row store and of the flat one.
 use crate::rows::Rows;
 use lines::End;
+use lines::span::Span;
 use std::process::Abort;
 use std::test::Fail;
 use stores::flat::Flat;
-use stores::kept::StoreFault;
+use stores::kept::{Kept, StoreFault};
 use stores::message::Message;
 use stores::store::Store;
 use stores::view::View;
@@ -12,8 +13,7 @@ use stores::view::View;
 fn message(location: u8, from: End, to: End, value: u16) -> Message {
     Message {
         location,
-        from,
-        to,
+        span: Span { from, to },
         value,
         view: View::zero(),
     }
@@ -37,15 +37,27 @@ fn answers<S: Store>(rt: &impl Abort, store: &S) {
     assert_eq!(rt; store.find(1, 9), Some(0));
     assert_eq!(rt; store.find(1, 4), None);
     assert_eq!(rt; store.find(200, 7), Some(6));
-    assert!(rt; store.is_free(1, 5, 6));
-    assert!(rt; !store.is_free(1, 5, 7));
-    assert!(rt; store.is_free(9, 7, 8));
-    assert!(rt; !store.is_free(200, 0, 3));
+    assert!(rt; store.is_free(1, Span { from: 5, to: 6 }));
+    assert!(rt; !store.is_free(1, Span { from: 5, to: 7 }));
+    assert!(rt; store.is_free(9, Span { from: 7, to: 8 }));
+    assert!(rt; !store.is_free(200, Span { from: 0, to: 3 }));
     assert_eq!(rt; store.greatest_end(1), 9);
     assert_eq!(rt; store.greatest_end(9), 7);
     assert_eq!(rt; store.greatest_end(10), 0);
-    assert_eq!(rt; store.nth(4).message.value, 5);
-    assert!(rt; !store.nth(7).there);
+    assert_eq!(rt;
+        store.nth(4),
+        Kept {
+            there: true,
+            message: message(1, 4, 5, 5)
+        }
+    );
+    assert_eq!(rt;
+        store.nth(7),
+        Kept {
+            there: false,
+            message: Message::zero()
+        }
+    );
 }
 
 fn shortened<S: Store>(rt: &impl Abort, store: &mut S) {
@@ -53,7 +65,7 @@ fn shortened<S: Store>(rt: &impl Abort, store: &mut S) {
     assert_eq!(rt; store.len(), 2);
     assert_eq!(rt; store.find(1, 5), None);
     assert_eq!(rt; store.find(1, 0), Some(1));
-    assert!(rt; store.is_free(1, 0, 6));
+    assert!(rt; store.is_free(1, Span { from: 0, to: 6 }));
     store.keep(0);
     assert_eq!(rt; store.greatest_end(1), 0);
 }

@@ -1,7 +1,8 @@
 -- What a thread is let do is a step of the relation. Assumes nothing.
-use Rattle.std.proofs.Common.{◌≡◌, ℕ, ◌<◌, ◌≤◌, Bool, true, false, cond, ◌&&◌, eqb, ltb, leb, List, [], ◌∷◌, ◌++◌, length, Some, None, Option, sym, refl, ap, ◌∙◌, subst, append-nil, arith}
+use Rattle.std.proofs.Common.{◌≡◌, ℕ, ◌<◌, ◌≤◌, Bool, true, false, cond, ◌&&◌, ltb, List, [], ◌∷◌, ◌++◌, length, Some, None, Option, sym, refl, ap, ◌∙◌, subst, append-nil, arith}
 use Rattle.std.proofs.lemmas.List.{length_push}
-use Rattle.std.proofs.lemmas.Bool.{and_parts, leb-true, ltb-true, eqb-true, cond_both}
+use Rattle.std.proofs.lemmas.Bool.{and_parts, leb-true, ltb-true, eqb-true}
+use Rattle.lines.specs.declared.span.Span.{Span}
 use Rattle.lines.specs.declared.trace.Line.{Line}
 use Rattle.lines.specs.declared.trace.Line.TheVariants.{Turn as T, Next as N, Read as R, Write as W, Update as U, Promise as G, Keep as H, Show as X, EndTurn as E}
 use Rattle.languages.specs.declared.action.Action.{Action}
@@ -22,18 +23,27 @@ use Rattle.stores.specs.Memory.{zero_message, find, is_free}
 use Rattle.stores.specs.StoreLaws.{In, Free, EndsAt}
 use Rattle.stores.proofs.StoreLaws.{in_at, is_free_sound, find_from_some}
 use Rattle.rules.specs.declared.fault.StepFault.{StepFault}
-use Rattle.rules.specs.declared.fault.StepFault.TheVariants.{Owing, TooNew, Value, Span, ClosingLine, Store, LogFull}
+use Rattle.rules.specs.declared.fault.StepFault.TheVariants.{Owing, TooNew, Span as BadSpan, ClosingLine, Store, LogFull}
 use Rattle.rules.specs.Models.{Views, Thread, Part}
 use Rattle.rules.specs.Threads.{next_of, reads, read_views, write_views, acquire_views, release_views, both_views, all_views, none_owed, find_owed}
-use Rattle.rules.specs.Rules.{Tried, went, refused, unless, message_at, goes_on, with_thread, fence_result, print_result, next_at, read_taking, read_found, read_at, release_owes, above, span_refusal, write_refusal, adds, written, write_at, update_views, updated_message, update_taking, update_found, update_at, keeps, keep_found, keep_at, act_result}
-use Rattle.rules.specs.Alone.{lone, OwesNothingAt, went_on, kept, Above, Alone, silent, acquire_fence, release_fence, both_fence, sequential_fence, print, read, write, update, keep}
+use Rattle.rules.specs.Rules.{Tried, went, refused, unless, message_at, goes_on, with_thread, fence_result, print_result, next_at, read_taking, read_found, read_at, release_owes, with_message, above, span_refusal, write_refusal, adds, written, write_at, update_views, updated_message, update_taking, update_found, update_at, keeps, keep_found, keep_at, act_result}
+use Rattle.rules.specs.Alone.{lone, OwesNothingAt, went_on, kept, Above, onward, Alone, silent, acquire_fence, release_fence, both_fence, sequential_fence, print, read, write, update, keep}
 use Rattle.rules.specs.Steps.{printed, Marks}
-use Rattle.rules.proofs.Marked.{none_some, nothing, owes_at_sound, marked_more, bare_more, marked_split, marks_keep, find_owed_some}
+use Rattle.rules.proofs.Marked.{nothing, owes_at_sound, marked_more, bare_more, marked_split, marks_keep, find_owed_some}
 
 -- where it went
 abbrev pub When : {Y : Type 0} → (Y → Type 0) → Tried Y → Type 0
 When F (went y) = F y
 When F (refused e) = Unit {0}
+
+-- a line goes only where a test passes, or only where it does not
+pub when_passed : {Y : Type 0} (F : Y → Type 0) (b : Bool) (t : Tried Y) (e : StepFault) → (b ≡ true → When F t) → When F (cond b t (refused e))
+when_passed F true t e h = h refl
+when_passed F false t e h = tt
+
+pub when_missed : {Y : Type 0} (F : Y → Type 0) (b : Bool) (t : Tried Y) (e : StepFault) → (b ≡ false → When F t) → When F (cond b (refused e) t)
+when_missed F true t e h = tt
+when_missed F false t e h = h refl
 
 -- what an accepted line of thread i did to its part
 pub record Acted (l i : ℕ) (closing : Option View) (line : Line) (p p' : Part) : Type 0 where
@@ -45,33 +55,33 @@ pub record Acted (l i : ℕ) (closing : Option View) (line : Line) (p p' : Part)
   pub prints : length p'.log ≤ 64
 
 -- a test that did not refuse
-pub passed : (b : Bool) (e : StepFault) (o : Option StepFault) → cond b o (Some e) ≡ None → (b ≡ true) × (o ≡ None)
+passed : (b : Bool) (e : StepFault) (o : Option StepFault) → cond b o (Some e) ≡ None → (b ≡ true) × (o ≡ None)
 passed true e o h = (refl, h)
-passed false e o h = absurd (none_some e (sym h))
+passed false e o h = cc
 
-pub missed : (b : Bool) (e : StepFault) (o : Option StepFault) → cond b (Some e) o ≡ None → (b ≡ false) × (o ≡ None)
-missed true e o h = absurd (none_some e (sym h))
+missed : (b : Bool) (e : StepFault) (o : Option StepFault) → cond b (Some e) o ≡ None → (b ≡ false) × (o ≡ None)
+missed true e o h = cc
 missed false e o h = (refl, h)
 
-pub above_sound : (closing : Option View) (x f : ℕ) → above closing x f ≡ true → Above closing x f
+above_sound : (closing : Option View) (x f : ℕ) → above closing x f ≡ true → Above closing x f
 above_sound None x f h = tt
 above_sound (Some line) x f h = ltb-true (at line x) f h
 
-pub span_sound : (closing : Option View) (x f t : ℕ) (ms : List Message) → span_refusal closing x f t ms ≡ None
-    → (f < t) × Free x f t ms × Above closing x f
-span_sound closing x f t ms h =
-    let a = passed (ltb f t && is_free x f t ms) Span (cond (above closing x f) None (Some ClosingLine)) h in
-    let b = passed (above closing x f) ClosingLine None a.1 in
-    let c = and_parts (ltb f t) (is_free x f t ms) a.0 in
-    (ltb-true f t c.0, is_free_sound x f t ms c.1, above_sound closing x f b.0)
+pub span_sound : (closing : Option View) (x : ℕ) (s : Span) (ms : List Message) → span_refusal closing x s ms ≡ None
+    → (s.from < s.to) × Free x s ms × Above closing x s.from
+span_sound closing x s ms h =
+    let a = passed (ltb s.from s.to && is_free x s ms) BadSpan (cond (above closing x s.from) None (Some ClosingLine)) h in
+    let b = passed (above closing x s.from) ClosingLine None a.1 in
+    let c = and_parts (ltb s.from s.to) (is_free x s ms) a.0 in
+    (ltb-true s.from s.to c.0, is_free_sound x s ms c.1, above_sound closing x s.from b.0)
 
-pub reads_print : (i : ℕ) (a : Action) (q : ℕ × ReadMode) → reads a ≡ Some q → printed i a ≡ []
+reads_print : (i : ℕ) (a : Action) (q : ℕ × ReadMode) → reads a ≡ Some q → printed i a ≡ []
 reads_print i Silent q h = refl
 reads_print i (Read x o) q h = refl
 reads_print i (Write x v o) q h = refl
 reads_print i (Update x o w) q h = refl
 reads_print i (Fence o) q h = refl
-reads_print i (Print v) q h = absurd (none_some q h)
+reads_print i (Print v) q h = cc
 reads_print i Ended q h = refl
 
 -- the message that is found
@@ -108,9 +118,7 @@ module _ (l i : ℕ) (closing : Option View) (p : Part) (marks : Marks p.thread.
       → Alone l closing (lone k ms) p.sc ms line (went_on (lone k ms) v vs) p.sc (ms ++ (m ∷ []))
       → When (To line) (adds p (goes_on k v vs) m)
   grows line v vs m e s =
-      cond_both (ltb (length ms) p.capacity)
-      (went (record { thread = goes_on k v vs; memory = ms ++ (m ∷ []); capacity = p.capacity; sc = p.sc; log = p.log }))
-      (refused (Store Full)) (When (To line))
+      when_passed (To line) (ltb (length ms) p.capacity) (went (with_message p (goes_on k v vs) m)) (Store Full)
       (λ less. record {
         step = subst (λ (os : List Message). Alone l closing (lone k ms) p.sc ms line (record { does = after k.does v; views = vs; owed = os }) p.sc (ms ++ (m ∷ [])))
             (sym (marked_more k.owed ms (m ∷ []) marks.1)) s;
@@ -120,20 +128,17 @@ module _ (l i : ℕ) (closing : Option View) (p : Part) (marks : Marks p.thread.
         log = same_log e;
         prints = prints;
       })
-      (λ _. tt)
 
   fence_step : (o : FenceKind) → next_of l k.does ≡ Fence o → When (To N) (fence_result p o)
   fence_step AcquireFence e = stays N (goes_on k 0 (acquire_views k.views)) (ap (printed i) e) marks (acquire_fence e)
   fence_step ReleaseFence e =
-      cond_both (none_owed k.owed) (went (with_thread p (goes_on k 0 (release_views k.views)))) (refused Owing) (When (To N))
-      (λ o. stays N (goes_on k 0 (release_views k.views)) (ap (printed i) e) marks (release_fence e (nothing k.owed ms o))) (λ _. tt)
+      when_passed (To N) _ _ _
+      (λ o. stays N (goes_on k 0 (release_views k.views)) (ap (printed i) e) marks (release_fence e (nothing k.owed ms o)))
   fence_step Both e =
-      cond_both (none_owed k.owed) (went (with_thread p (goes_on k 0 (both_views k.views)))) (refused Owing) (When (To N))
-      (λ o. stays N (goes_on k 0 (both_views k.views)) (ap (printed i) e) marks (both_fence e (nothing k.owed ms o))) (λ _. tt)
+      when_passed (To N) _ _ _
+      (λ o. stays N (goes_on k 0 (both_views k.views)) (ap (printed i) e) marks (both_fence e (nothing k.owed ms o)))
   fence_step Sequential e =
-      cond_both (none_owed k.owed)
-      (went (record { thread = goes_on k 0 (all_views (join p.sc k.views.acq)); memory = ms; capacity = p.capacity; sc = join p.sc k.views.acq; log = p.log }))
-      (refused Owing) (When (To N))
+      when_passed (To N) (none_owed k.owed) (went (record { thread = goes_on k 0 (all_views (join p.sc k.views.acq)); memory = ms; capacity = p.capacity; sc = join p.sc k.views.acq; log = p.log })) Owing
       (λ o. record {
         step = sequential_fence e (nothing k.owed ms o);
         marks = marks;
@@ -142,13 +147,12 @@ module _ (l i : ℕ) (closing : Option View) (p : Part) (marks : Marks p.thread.
         log = same_log (ap (printed i) e);
         prints = prints;
       })
-      (λ _. tt)
 
   print_step : (v : ℕ) → next_of l k.does ≡ Print v → When (To N) (print_result i p v)
   print_step v e =
       let p' : Part = record { thread = goes_on k 0 k.views; memory = ms; capacity = p.capacity; sc = p.sc; log = p.log ++ ((i, v) ∷ []) } in
-      cond_both (none_owed k.owed) (cond (ltb (length p.log) 64) (went p') (refused LogFull)) (refused Owing) (When (To N))
-      (λ o. cond_both (ltb (length p.log) 64) (went p') (refused LogFull) (When (To N))
+      when_passed (To N) (none_owed k.owed) (cond (ltb (length p.log) 64) (went p') (refused LogFull)) Owing
+      (λ o. when_passed (To N) (ltb (length p.log) 64) (went p') LogFull
       (λ less. record {
         step = print v e (nothing k.owed ms o);
         marks = marks;
@@ -156,9 +160,7 @@ module _ (l i : ℕ) (closing : Option View) (p : Part) (marks : Marks p.thread.
         room = room;
         log = ap (λ (a : Action). p.log ++ printed i a) (sym e);
         prints = let a = ltb-true (length p.log) 64 less in let b = length_push p.log (i, v) in omega arith;
-      })
-      (λ _. tt))
-      (λ _. tt)
+      }))
 
   next_step : (a : Action) → next_of l k.does ≡ a → When (To N) (next_at i p a)
   next_step Silent e = stays N (goes_on k 0 k.views) (ap (printed i) e) marks (silent e)
@@ -185,69 +187,69 @@ module _ (l i : ℕ) (closing : Option View) (p : Part) (marks : Marks p.thread.
   read_step_at o x t e (Some j) f =
       let m = message_at ms j in
       let at_j = found_at x t ms j f in
-      cond_both (leb (at k.views.cur x) t) (read_taking p o x t m ((k.does []).takes m.value)) (refused TooNew) (When (To (R t)))
-      (λ le. read_taken o x t m e at_j.1 at_j.2 (leb-true (at k.views.cur x) t le) ((k.does []).takes m.value) refl) (λ _. tt)
+      when_passed (To (R t)) _ _ _
+      (λ le. read_taken o x t m e at_j.1 at_j.2 (leb-true (at k.views.cur x) t le) ((k.does []).takes m.value) refl)
 
   read_step : (t : ℕ) (r : Option (ℕ × ReadMode)) → reads (next_of l k.does) ≡ r → When (To (R t)) (read_at p t r)
   read_step t None e = tt
   read_step t (Some xo) e = read_step_at xo.1 xo.0 t e (find xo.0 t ms) refl
 
   release_free : (o : WriteMode) (x : ℕ) → release_owes o x p ≡ false → o ≡ Release → OwesNothingAt x (lone k ms)
-  release_free Relaxed x f e = let z : ◌≡◌ {A = ℕ} 0 1 = cc in absurd (omega arith)
+  release_free Relaxed x f e = cc
   release_free Release x f e = owes_at_sound x k.owed ms f
 
-  write_step : (f t : ℕ) (a : Action) → next_of l k.does ≡ a → When (To (W f t)) (write_at closing p f t a)
-  write_step f t Silent e = tt
-  write_step f t (Read x o) e = tt
-  write_step f t (Write x v o) e =
-      let vs = write_views o x t k.views in
-      unless_when (To (W f t)) (write_refusal closing x o f t p) (adds p (goes_on k 0 vs) (written x v f t vs))
+  write_step : (s : Span) (a : Action) → next_of l k.does ≡ a → When (To (W s)) (write_at closing p s a)
+  write_step s Silent e = tt
+  write_step s (Read x o) e = tt
+  write_step s (Write x v o) e =
+      let vs = write_views o x s.to k.views in
+      unless_when (To (W s)) (write_refusal closing x o s p) (adds p (goes_on k 0 vs) (written x v s vs))
       (λ none.
-      let a = missed (release_owes o x p) Owing (cond (ltb (at k.views.cur x) t) (span_refusal closing x f t ms) (Some TooNew)) none in
-      let b = passed (ltb (at k.views.cur x) t) TooNew (span_refusal closing x f t ms) a.1 in
-      let c = span_sound closing x f t ms b.1 in
-      grows (W f t) 0 vs (written x v f t vs) (ap (printed i) e)
-      (write x v o f t e (release_free o x a.0) (ltb-true (at k.views.cur x) t b.0) c.0 c.1 c.2))
-  write_step f t (Update x o w) e = tt
-  write_step f t (Fence o) e = tt
-  write_step f t (Print v) e = tt
-  write_step f t Ended e = tt
+      let a = missed (release_owes o x p) Owing (cond (ltb (at k.views.cur x) s.to) (span_refusal closing x s ms) (Some TooNew)) none in
+      let b = passed (ltb (at k.views.cur x) s.to) TooNew (span_refusal closing x s ms) a.1 in
+      let c = span_sound closing x s ms b.1 in
+      grows (W s) 0 vs (written x v s vs) (ap (printed i) e)
+      (write x v o s e (release_free o x a.0) (ltb-true (at k.views.cur x) s.to b.0) c.0 c.1 c.2))
+  write_step s (Update x o w) e = tt
+  write_step s (Fence o) e = tt
+  write_step s (Print v) e = tt
+  write_step s Ended e = tt
 
-  update_taken : (o : ReadMode) (w : WriteMode) (x f t : ℕ) (m : Message) → next_of l k.does ≡ Update x o w → release_owes w x p ≡ false
-      → In m ms → EndsAt x f m → at k.views.cur x ≤ f
-      → (τ : Taking) → (k.does []).takes m.value ≡ τ → When (To (U f t)) (update_taking closing p o w x f t m τ)
-  update_taken o w x f t m e free h ends le NotTaken τ = tt
-  update_taken o w x f t m e free h ends le OnlyRead τ = tt
-  update_taken o w x f t m e free h ends le (Replaced v) τ =
-      let vs = update_views o w x f t m.view k.views in
-      let Made : ℕ → ℕ → Type 0 = λ y g.
-      next_of l k.does ≡ Update y o w → (w ≡ Release → OwesNothingAt y (lone k ms)) → at k.views.cur y ≤ g → (g < t) × Free y g t ms × Above closing y g
-      → Alone l closing (lone k ms) p.sc ms (U g t) (went_on (lone k ms) m.value (update_views o w y g t m.view k.views)) p.sc
-      (ms ++ (updated_message y v g t m.view (update_views o w y g t m.view k.views) ∷ [])) in
-      let make : Made m.location m.to = λ d r s c. update o w m v t d r h s τ c.0 c.1 c.2 in
-      unless_when (To (U f t)) (span_refusal closing x f t ms) (adds p (goes_on k m.value vs) (updated_message x v f t m.view vs))
-      (λ none. grows (U f t) m.value vs (updated_message x v f t m.view vs) (ap (printed i) e)
-      (subst (λ (y : ℕ). Made y f) ends.0 (subst (λ (g : ℕ). Made m.location g) ends.1 make) e (release_free w x free) le (span_sound closing x f t ms none)))
+  update_taken : (o : ReadMode) (w : WriteMode) (x : ℕ) (s : Span) (m : Message) → next_of l k.does ≡ Update x o w → release_owes w x p ≡ false
+      → In m ms → EndsAt x s.from m → at k.views.cur x ≤ s.from
+      → (τ : Taking) → (k.does []).takes m.value ≡ τ → When (To (U s)) (update_taking closing p o w x s m τ)
+  update_taken o w x s m e free h ends le NotTaken τ = tt
+  update_taken o w x s m e free h ends le OnlyRead τ = tt
+  update_taken o w x s m e free h ends le (Replaced v) τ =
+      let vs = update_views o w x s m.view k.views in
+      let Made : ℕ → Span → Type 0 = λ y q.
+      next_of l k.does ≡ Update y o w → (w ≡ Release → OwesNothingAt y (lone k ms)) → at k.views.cur y ≤ q.from → (q.from < q.to) × Free y q ms × Above closing y q.from
+      → Alone l closing (lone k ms) p.sc ms (U q) (went_on (lone k ms) m.value (update_views o w y q m.view k.views)) p.sc
+      (ms ++ (updated_message y v q m.view (update_views o w y q m.view k.views) ∷ [])) in
+      let make : Made m.location (onward m s.to) = λ d r q c. update o w m v s.to d r h q τ c.0 c.1 c.2 in
+      unless_when (To (U s)) (span_refusal closing x s ms) (adds p (goes_on k m.value vs) (updated_message x v s m.view vs))
+      (λ none. grows (U s) m.value vs (updated_message x v s m.view vs) (ap (printed i) e)
+      (subst (λ (y : ℕ). Made y s) ends.0 (subst (λ (g : ℕ). Made m.location (record { from = g; to = s.to })) ends.1 make) e (release_free w x free) le (span_sound closing x s ms none)))
 
-  update_step_at : (o : ReadMode) (w : WriteMode) (x f t : ℕ) → next_of l k.does ≡ Update x o w → release_owes w x p ≡ false
-      → (r : Option ℕ) → find x f ms ≡ r → When (To (U f t)) (update_found closing p o w x f t r)
-  update_step_at o w x f t e free None g = tt
-  update_step_at o w x f t e free (Some j) g =
+  update_step_at : (o : ReadMode) (w : WriteMode) (x : ℕ) (s : Span) → next_of l k.does ≡ Update x o w → release_owes w x p ≡ false
+      → (r : Option ℕ) → find x s.from ms ≡ r → When (To (U s)) (update_found closing p o w x s r)
+  update_step_at o w x s e free None g = tt
+  update_step_at o w x s e free (Some j) g =
       let m = message_at ms j in
-      let at_j = found_at x f ms j g in
-      cond_both (leb (at k.views.cur x) f) (update_taking closing p o w x f t m ((k.does []).takes m.value)) (refused TooNew) (When (To (U f t)))
-      (λ le. update_taken o w x f t m e free at_j.1 at_j.2 (leb-true (at k.views.cur x) f le) ((k.does []).takes m.value) refl) (λ _. tt)
+      let at_j = found_at x s.from ms j g in
+      when_passed (To (U s)) _ _ _
+      (λ le. update_taken o w x s m e free at_j.1 at_j.2 (leb-true (at k.views.cur x) s.from le) ((k.does []).takes m.value) refl)
 
-  update_step : (f t : ℕ) (a : Action) → next_of l k.does ≡ a → When (To (U f t)) (update_at closing p f t a)
-  update_step f t Silent e = tt
-  update_step f t (Read x o) e = tt
-  update_step f t (Write x v o) e = tt
-  update_step f t (Update x o w) e =
-      cond_both (release_owes w x p) (refused Owing) (update_found closing p o w x f t (find x f ms)) (When (To (U f t)))
-      (λ _. tt) (λ free. update_step_at o w x f t e free (find x f ms) refl)
-  update_step f t (Fence o) e = tt
-  update_step f t (Print v) e = tt
-  update_step f t Ended e = tt
+  update_step : (s : Span) (a : Action) → next_of l k.does ≡ a → When (To (U s)) (update_at closing p s a)
+  update_step s Silent e = tt
+  update_step s (Read x o) e = tt
+  update_step s (Write x v o) e = tt
+  update_step s (Update x o w) e =
+      when_missed (To (U s)) _ _ _
+      (λ free. update_step_at o w x s e free (find x s.from ms) refl)
+  update_step s (Fence o) e = tt
+  update_step s (Print v) e = tt
+  update_step s Ended e = tt
 
   keep_step_at : (x v t : ℕ) → next_of l k.does ≡ Write x v Relaxed → (r : Option ℕ) → find_owed x t k.owed ms ≡ r → When (To (H t)) (keep_found p x v t r)
   keep_step_at x v t e None f = tt
@@ -259,15 +261,13 @@ module _ (l i : ℕ) (closing : Option View) (p : Part) (marks : Marks p.thread.
       let Made : ℕ → ℕ → Type 0 = λ y u.
       next_of l k.does ≡ Write y m.value Relaxed → at k.views.cur y < u
       → Alone l closing (lone k ms) p.sc ms (H u) (kept (lone k ms) y u (split.0 ++ split.1)) p.sc ms in
-      let make : Made m.location m.to = λ d s. keep m split.0 split.1 d split.2 s in
-      cond_both (ltb (at k.views.cur x) t) (cond (eqb m.value v) there (refused Value)) (refused TooNew) (When (To (H t)))
-      (λ less. cond_both (eqb m.value v) there (refused Value) (When (To (H t)))
+      let make : Made m.location m.span.to = λ d s. keep m split.0 split.1 d split.2 s in
+      when_passed (To (H t)) _ _ _
+      (λ less. when_passed (To (H t)) _ _ _
       (λ same. stays (H t) (keeps k j x t) (ap (printed i) e) (marks_keep k.owed ms j marks)
       (subst (λ (os : List Message). Alone l closing (lone k ms) p.sc ms (H t) (kept (lone k ms) x t os) p.sc ms) (sym split.3)
       (subst (λ (y : ℕ). Made y t) at_j.2.0 (subst (λ (u : ℕ). Made m.location u) at_j.2.1 make)
-      (e ∙ ap (λ (u : ℕ). Write x u Relaxed) (sym (eqb-true m.value v same))) (ltb-true (at k.views.cur x) t less))))
-      (λ _. tt))
-      (λ _. tt)
+      (e ∙ ap (λ (u : ℕ). Write x u Relaxed) (sym (eqb-true m.value v same))) (ltb-true (at k.views.cur x) t less)))))
 
   keep_step : (t : ℕ) (a : Action) → next_of l k.does ≡ a → When (To (H t)) (keep_at p t a)
   keep_step t Silent e = tt
@@ -283,9 +283,9 @@ module _ (l i : ℕ) (closing : Option View) (p : Part) (marks : Marks p.thread.
   act_step (T j) = tt
   act_step N = next_step (next_of l k.does) refl
   act_step (R t) = read_step t (reads (next_of l k.does)) refl
-  act_step (W f t) = write_step f t (next_of l k.does) refl
-  act_step (U f t) = update_step f t (next_of l k.does) refl
-  act_step (G x v f t) = tt
+  act_step (W s) = write_step s (next_of l k.does) refl
+  act_step (U s) = update_step s (next_of l k.does) refl
+  act_step (G x v s) = tt
   act_step (H t) = keep_step t (next_of l k.does) refl
   act_step X = tt
   act_step E = tt

@@ -1,7 +1,8 @@
 -- The rules as a definition and as a relation agree. Assumes nothing.
-use Rattle.std.proofs.Common.{◌≡◌, ℕ, ◌<◌, ◌≤◌, false, ltb, List, [], ◌∷◌, ◌++◌, length, Some, None, Option, sym, refl, ap, ◌∙◌, subst, inl, inr, arith}
+use Rattle.std.proofs.Common.{◌≡◌, ℕ, ◌<◌, ◌≤◌, false, List, ◌++◌, length, Some, None, Option, sym, refl, ap, ◌∙◌, subst, inl, inr, arith}
 use Rattle.std.proofs.lemmas.List.{length_push}
-use Rattle.std.proofs.lemmas.Bool.{lt-ltb, ltb-true, cond-true, cond-false, cond_both, cases_Bool}
+use Rattle.std.proofs.lemmas.Bool.{lt-ltb, ltb-true, cond-true, cond-false, cases_Bool}
+use Rattle.lines.specs.declared.span.Span.{Span}
 use Rattle.lines.specs.declared.trace.Line.{Line}
 use Rattle.lines.specs.declared.trace.Line.TheVariants.{Turn as T, Next as N, Read as R, Write as W, Update as U, Promise as G, Keep as H, Show as X, EndTurn as E}
 use Rattle.stores.specs.declared.view.View.{View}
@@ -9,18 +10,17 @@ use Rattle.stores.specs.declared.message.Message.{Message}
 use Rattle.stores.specs.Views.{at}
 use Rattle.stores.specs.StoreLaws.{Free}
 use Rattle.rules.specs.declared.fault.StepFault.{StepFault}
-use Rattle.rules.specs.declared.fault.StepFault.TheVariants.{Range, Moment, TooNew, StillOwing}
-use Rattle.rules.specs.Models.{Thread, Part, Phase, between, turn, showing, Run, thread_at, part_at, with_part, in_phase}
+use Rattle.rules.specs.Models.{Thread, Part, Phase, between, turn, showing, Run, thread_at, part_at, with_part}
 use Rattle.rules.specs.Threads.{next_of, none_owed, marked}
-use Rattle.rules.specs.Rules.{went, refused, unless, span_refusal, adds, promised_message, owing, promise_result, act_result, lifted, act_in, promise_in, begin_in, closing_line, saved, show_in, put_back, end_in, line_result}
+use Rattle.rules.specs.Rules.{went, unless, with_message, adds, promised_message, owing, promise_result, act_result, lifted, act_in, promise_in, begin_in, show_in, end_in, line_result}
 use Rattle.rules.specs.Alone.{Lone, lone, OwesNothing, Alone, silent, acquire_fence, release_fence, both_fence, sequential_fence, print, read, write, update, keep}
 use Rattle.rules.specs.Steps.{lone_at, printed, Marks, Acting, in_turn, in_showing, Step, begins, acts, promises, shows, ends_turn, ends_showing}
 use Rattle.rules.specs.Laws.{Agreement}
 use Rattle.rules.proofs.Marked.{nothing, something, owes_none, marks_same}
-use Rattle.rules.proofs.Accepts.{When, Acted}
+use Rattle.rules.proofs.Accepts.{When, Acted, when_passed, when_missed}
 use Rattle.rules.proofs.Preserved.{step_holds}
 use Rattle.rules.proofs.Complete.{complete, span_complete, adds_complete}
-use Rattle.rules.proofs.Sound.{Good, Sound, SoundAt, Promised, promising, acting, when_lifted, holds_at}
+use Rattle.rules.proofs.Sound.{Good, Sound, SoundAt, acting, when_acted, when_promised, holds_at}
 
 pub sound_good : (r : Run) → Sound r → Good r
 sound_good r h = go r.phase h
@@ -35,7 +35,7 @@ module _ (r : Run) (g : Good r) where
 
   acted_step : (i : ℕ) (closing : Option View) (line : Line) → Acting r i closing → When (Step r line) (lifted r i (act_result r.locations i closing line (part_at r i)))
   acted_step i closing line act =
-      when_lifted r i (λ p. Acted r.locations i closing line (part_at r i) p) (Step r line) (act_result r.locations i closing line (part_at r i)) (acting r i closing line g)
+      when_acted r i closing line (Step r line) g
       (λ p a. done p a)
     where
       done : (p : Part) → Acted r.locations i closing line (part_at r i) p → Step r line (with_part r i p)
@@ -50,48 +50,48 @@ module _ (r : Run) (g : Good r) where
   act_steps line between e = tt
   act_steps line (turn i) e = acted_step i None line (in_turn i e)
   act_steps line (showing i s cl) e =
-      cond_both (none_owed (thread_at r i).owed) (refused Moment) (lifted r i (act_result r.locations i (Some cl) line (part_at r i))) (When (Step r line))
-      (λ _. tt) (λ owing. acted_step i (Some cl) line (in_showing i s cl e (something (thread_at r i).owed r.memory (g.marks i).1 owing)))
+      when_missed (Step r line) _ _ _
+      (λ owing. acted_step i (Some cl) line (in_showing i s cl e (something (thread_at r i).owed r.memory (g.marks i).1 owing)))
 
   begin_steps : (i : ℕ) (ph : Phase) → i < length r.threads → r.phase ≡ ph → When (Step r (T i)) (begin_in r i ph)
   begin_steps i between lt e = begins i lt e
   begin_steps i (turn j) lt e = tt
   begin_steps i (showing j s cl) lt e = tt
 
-  promise_steps : (x v f t : ℕ) (ph : Phase) → x < r.locations → r.phase ≡ ph → When (Step r (G x v f t)) (promise_in r x v f t ph)
-  promise_steps x v f t between lt e = tt
-  promise_steps x v f t (turn i) lt e =
-      when_lifted r i (Promised r i x v f t) (Step r (G x v f t)) (promise_result x v f t (part_at r i)) (promising r i x v f t)
-      (λ p a. subst (λ (q : Part). Step r (G x v f t) (with_part r i q)) (sym a.is) (promises i x v f t e lt a.new a.span a.free a.room))
-  promise_steps x v f t (showing i s cl) lt e = tt
+  promise_steps : (x v : ℕ) (s : Span) (ph : Phase) → x < r.locations → r.phase ≡ ph → When (Step r (G x v s)) (promise_in r x v s ph)
+  promise_steps x v s between lt e = tt
+  promise_steps x v s (turn i) lt e =
+      when_promised r i x v s (Step r (G x v s))
+      (λ p a. subst (λ (q : Part). Step r (G x v s) (with_part r i q)) (sym a.is) (promises i x v s e lt a.new a.span a.free a.room))
+  promise_steps x v s (showing i sv cl) lt e = tt
 
   show_steps : (ph : Phase) → r.phase ≡ ph → When (Step r X) (show_in r ph)
   show_steps between e = tt
   show_steps (turn i) e =
-      cond_both (none_owed (thread_at r i).owed) (refused Moment) (went (in_phase r (showing i (saved r i) (closing_line r.memory)))) (When (Step r X))
-      (λ _. tt) (λ owing. shows i e (something (thread_at r i).owed r.memory (g.marks i).1 owing))
+      when_missed (Step r X) _ _ _
+      (λ owing. shows i e (something (thread_at r i).owed r.memory (g.marks i).1 owing))
   show_steps (showing i s cl) e = tt
 
   end_steps : (ph : Phase) → r.phase ≡ ph → When (Step r E) (end_in r ph)
   end_steps between e = tt
   end_steps (turn i) e =
-      cond_both (none_owed (thread_at r i).owed) (went (in_phase r between)) (refused StillOwing) (When (Step r E))
-      (λ o. ends_turn i e (nothing (thread_at r i).owed r.memory o)) (λ _. tt)
+      when_passed (Step r E) _ _ _
+      (λ o. ends_turn i e (nothing (thread_at r i).owed r.memory o))
   end_steps (showing i s cl) e =
-      cond_both (none_owed (thread_at r i).owed) (went (in_phase (put_back r i s) between)) (refused StillOwing) (When (Step r E))
-      (λ o. ends_showing i s cl e (nothing (thread_at r i).owed r.memory o)) (λ _. tt)
+      when_passed (Step r E) _ _ _
+      (λ o. ends_showing i s cl e (nothing (thread_at r i).owed r.memory o))
 
   pub line_steps : (line : Line) → When (Step r line) (line_result line r)
   line_steps (T i) =
-      cond_both (ltb i (length r.threads)) (begin_in r i r.phase) (refused Range) (When (Step r (T i)))
-      (λ lt. begin_steps i r.phase (ltb-true i (length r.threads) lt) refl) (λ _. tt)
+      when_passed (Step r (T i)) _ _ _
+      (λ lt. begin_steps i r.phase (ltb-true i (length r.threads) lt) refl)
   line_steps N = act_steps N r.phase refl
   line_steps (R t) = act_steps (R t) r.phase refl
-  line_steps (W f t) = act_steps (W f t) r.phase refl
-  line_steps (U f t) = act_steps (U f t) r.phase refl
-  line_steps (G x v f t) =
-      cond_both (ltb x r.locations) (promise_in r x v f t r.phase) (refused Range) (When (Step r (G x v f t)))
-      (λ lt. promise_steps x v f t r.phase (ltb-true x r.locations lt) refl) (λ _. tt)
+  line_steps (W s) = act_steps (W s) r.phase refl
+  line_steps (U s) = act_steps (U s) r.phase refl
+  line_steps (G x v s) =
+      when_passed (Step r (G x v s)) _ _ _
+      (λ lt. promise_steps x v s r.phase (ltb-true x r.locations lt) refl)
   line_steps (H t) = act_steps (H t) r.phase refl
   line_steps X = show_steps r.phase refl
   line_steps E = end_steps r.phase refl
@@ -107,7 +107,7 @@ module _ (r : Run) (g : Good r) where
   act_line (sequential_fence e n) = refl
   act_line (print v e n) = refl
   act_line (read o m e i le τ) = refl
-  act_line (write x v o f t e n less span free up) = refl
+  act_line (write x v o s e n less span free up) = refl
   act_line (update o w m v t e n i le τ span free up) = refl
   act_line (keep m before later e o less) = refl
 
@@ -118,7 +118,7 @@ module _ (r : Run) (g : Good r) where
   act_in_is i closing line (in_turn j e) = ap (act_in r line) e
   act_in_is i closing line (in_showing j s cl e h) =
       ap (act_in r line) e
-      ∙ cond-false (none_owed (thread_at r j).owed) (refused Moment) (lifted r j (act_result r.locations j (Some cl) line (part_at r j))) (is_owing j h)
+      ∙ cond-false _ _ _ (is_owing j h)
 
   -- the part that comes out is the one that the relation names
   same_part : (i : ℕ) (closing : Option View) (line : Line) (k : Thread) (S : View) (M : List Message) (p : Part)
@@ -148,35 +148,29 @@ module _ (r : Run) (g : Good r) where
       act_line s ∙ act_in_is i closing line act ∙ ap (lifted r i) c.1
       ∙ ap (λ (p : Part). went (with_part r i p)) (same_part i closing line k S M c.0 s marks a c.2 c.3 c.4)
 
-  promise_accepted : (i x v f t : ℕ) → at (thread_at r i).views.cur x < t → f < t → Free x f t r.memory → length r.memory < r.capacity
-      → promise_result x v f t (part_at r i) ≡ went (record {
-        thread = owing (thread_at r i) (length r.memory);
-        memory = r.memory ++ (promised_message (thread_at r i).views x v f t ∷ []);
-        capacity = r.capacity;
-        sc = r.sc;
-        log = r.log;
-      })
-  promise_accepted i x v f t less span free room =
+  promise_accepted : (i x v : ℕ) (s : Span) → at (thread_at r i).views.cur x < s.to → s.from < s.to → Free x s r.memory → length r.memory < r.capacity
+      → promise_result x v s (part_at r i) ≡ went (with_message (part_at r i) (owing (thread_at r i) (length r.memory)) (promised_message (thread_at r i).views x v s))
+  promise_accepted i x v s less span free room =
       let k = owing (thread_at r i) (length r.memory) in
-      let m = promised_message (thread_at r i).views x v f t in
-      cond-true (ltb (at (thread_at r i).views.cur x) t) (unless (span_refusal None x f t r.memory) (adds (part_at r i) k m)) (refused TooNew) (lt-ltb (at (thread_at r i).views.cur x) t less)
-      ∙ ap (λ (o : Option StepFault). unless o (adds (part_at r i) k m)) (span_complete None x f t r.memory span free tt)
+      let m = promised_message (thread_at r i).views x v s in
+      cond-true _ _ _ (lt-ltb (at (thread_at r i).views.cur x) s.to less)
+      ∙ ap (λ (o : Option StepFault). unless o (adds (part_at r i) k m)) (span_complete None x s r.memory span free tt)
       ∙ adds_complete (part_at r i) k m (let e = length_push r.memory m in omega arith)
 
-  pub step_accepted : (line : Line) (r' : Run) → Step r line r' → line_result line r ≡ went r'
+  step_accepted : (line : Line) (r' : Run) → Step r line r' → line_result line r ≡ went r'
   step_accepted line r' (begins i lt e) =
-      cond-true (ltb i (length r.threads)) (begin_in r i r.phase) (refused Range) (lt-ltb i (length r.threads) lt) ∙ ap (begin_in r i) e
+      cond-true _ _ _ (lt-ltb i (length r.threads) lt) ∙ ap (begin_in r i) e
   step_accepted line r' (acts i closing k S M act s marks room prints) = acts_accepted i closing line k S M act s marks room prints
-  step_accepted line r' (promises i x v f t e lt less span free room) =
-      cond-true (ltb x r.locations) (promise_in r x v f t r.phase) (refused Range) (lt-ltb x r.locations lt) ∙ ap (promise_in r x v f t) e
-      ∙ ap (lifted r i) (promise_accepted i x v f t less span free room)
+  step_accepted line r' (promises i x v s e lt less span free room) =
+      cond-true _ _ _ (lt-ltb x r.locations lt) ∙ ap (promise_in r x v s) e
+      ∙ ap (lifted r i) (promise_accepted i x v s less span free room)
   step_accepted line r' (shows i e h) =
-      ap (show_in r) e ∙ cond-false (none_owed (thread_at r i).owed) (refused Moment) (went (in_phase r (showing i (saved r i) (closing_line r.memory)))) (is_owing i h)
+      ap (show_in r) e ∙ cond-false _ _ _ (is_owing i h)
   step_accepted line r' (ends_turn i e n) =
-      ap (end_in r) e ∙ cond-true (none_owed (thread_at r i).owed) (went (in_phase r between)) (refused StillOwing) (owes_none (thread_at r i).owed r.memory (g.marks i).1 n)
+      ap (end_in r) e ∙ cond-true _ _ _ (owes_none (thread_at r i).owed r.memory (g.marks i).1 n)
   step_accepted line r' (ends_showing i s cl e n) =
       ap (end_in r) e
-      ∙ cond-true (none_owed (thread_at r i).owed) (went (in_phase (put_back r i s) between)) (refused StillOwing) (owes_none (thread_at r i).owed r.memory (g.marks i).1 n)
+      ∙ cond-true _ _ _ (owes_none (thread_at r i).owed r.memory (g.marks i).1 n)
 
   pub agreement : Agreement r
   agreement line r' = (λ e. subst (When (Step r line)) e (line_steps line), step_accepted line r')

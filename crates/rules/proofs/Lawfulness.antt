@@ -1,8 +1,9 @@
 -- Every run is lawful. Assumes nothing.
-use Rattle.std.proofs.Common.{◌≡◌, ℕ, zero, suc, ◌<◌, ◌≤◌, false, cond, ◌&&◌, ltb, leb, List, [], ◌∷◌, ◌++◌, map, length, get_or, take, replicate, sym, refl, ap, ◌∙◌, subst, inl, arith}
+use Rattle.std.proofs.Common.{◌≡◌, ℕ, zero, suc, ◌<◌, ◌≤◌, false, cond, leb, List, [], ◌∷◌, ◌++◌, map, length, get_or, take, replicate, sym, refl, ap, ◌∙◌, subst, inl, arith}
 use lib.ListN.{length-replicate}
 use Rattle.std.proofs.lemmas.List.{length_push}
-use Rattle.std.proofs.lemmas.Bool.{and_parts, leb-true, cond_both}
+use Rattle.std.proofs.lemmas.Bool.{and_parts, leb-true}
+use Rattle.lines.specs.Scopes.{in_scope}
 use Rattle.lines.specs.declared.trace.Line.{Line}
 use Rattle.languages.specs.Behaviours.{Behaviour}
 use Rattle.stores.specs.declared.message.Message.{Message}
@@ -19,7 +20,7 @@ use Rattle.rules.specs.Histories.{Event, no_turn, placed, history, played, messa
 use Rattle.rules.specs.Laws.{WellFormed, Apart, Lawful, RunsAreLawful}
 use Rattle.rules.proofs.Members.{in_push, apart_push}
 use Rattle.rules.proofs.Marked.{none_marked}
-use Rattle.rules.proofs.Accepts.{When}
+use Rattle.rules.proofs.Accepts.{When, when_passed}
 use Rattle.rules.proofs.Preserved.{Fit, all_fit, known_zero}
 use Rattle.rules.proofs.Sound.{Good, Calm, Sound, SoundAt}
 use Rattle.rules.proofs.Agrees.{sound_good, agreement}
@@ -28,7 +29,7 @@ use Rattle.rules.proofs.Places.{played_inside}
 
 -- a run that was just made
 
-initials_length : (l : ℕ) → length (initials l) ≡ l
+pub initials_length : (l : ℕ) → length (initials l) ≡ l
 initials_length zero = refl
 initials_length (suc l) = let e = length_push (initials l) (initial l) in let h = initials_length l in omega arith
 
@@ -115,8 +116,8 @@ module _ (bs : List Behaviour) (n l capacity : ℕ) (few : l ≤ 8) (room : l �
     where
       calm : (r : Run) (ph : Phase) → SoundAt r ph → place_of ph ≡ no_turn → Calm (λ j. ⊥) r × (undone_in r ph ≡ r)
       calm r between h e = (h.1, refl)
-      calm r (turn i) h e = let z : ◌≡◌ {A = ℕ} 0 1 = cc in absurd (omega arith)
-      calm r (showing i s cl) h e = let z : ◌≡◌ {A = ℕ} 0 1 = cc in absurd (omega arith)
+      calm r (turn i) h e = cc
+      calm r (showing i s cl) h e = cc
 
       kept : (r : Run) (es : List Event) → Sound r → place_of r.phase ≡ no_turn → Past first r es
           → (i : ℕ) (M : List Message) → Within (present r.locations es) M → Rattle.rules.specs.Alone.CanKeep r.locations (lone_at r i) r.sc M
@@ -129,11 +130,9 @@ module _ (bs : List Behaviour) (n l capacity : ℕ) (few : l ≤ 8) (room : l �
 -- what making accepts
 made_is : (bs : List Behaviour) (n l capacity : ℕ) → When (λ r. (r ≡ new_run bs n l capacity) × (l ≤ 8) × (l ≤ capacity)) (made bs n l capacity)
 made_is bs n l capacity =
-    cond_both ((ltb 0 n && leb n 4) && (ltb 0 l && leb l 8)) (cond (leb l capacity) (went (new_run bs n l capacity)) (refused (Store Full))) (refused Range)
-    (When (λ r. (r ≡ new_run bs n l capacity) × (l ≤ 8) × (l ≤ capacity)))
-    (λ ok. cond_both (leb l capacity) (went (new_run bs n l capacity)) (refused (Store Full)) (When (λ r. (r ≡ new_run bs n l capacity) × (l ≤ 8) × (l ≤ capacity)))
-    (λ room. (refl, leb-true l 8 (and_parts (ltb 0 l) (leb l 8) (and_parts (ltb 0 n && leb n 4) (ltb 0 l && leb l 8) ok).1).1, leb-true l capacity room)) (λ _. tt))
-    (λ _. tt)
+    when_passed (λ r. (r ≡ new_run bs n l capacity) × (l ≤ 8) × (l ≤ capacity)) (in_scope n l) (cond (leb l capacity) (went (new_run bs n l capacity)) (refused (Store Full))) Range
+    (λ ok. when_passed (λ r. (r ≡ new_run bs n l capacity) × (l ≤ 8) × (l ≤ capacity)) (leb l capacity) (went (new_run bs n l capacity)) (Store Full)
+    (λ room. (refl, leb-true l 8 (and_parts _ _ (and_parts _ _ ok).1).1, leb-true l capacity room)))
 
 pub lawful : RunsAreLawful
 lawful bs n l capacity small r e lines =

@@ -1,6 +1,7 @@
 -- The marks of a thread and the messages that they mark. Assumes nothing.
-use Rattle.std.proofs.Common.{◌≡◌, ℕ, zero, suc, ◌+◌, ◌<◌, ◌≤◌, Bool, true, false, not, ◌&&◌, eqb, List, [], ◌∷◌, ◌++◌, length, get_or, set, Some, None, Option, sym, refl, ap, ◌∙◌, subst, inl, inr, arith, length-set}
+use Rattle.std.proofs.Common.{◌≡◌, ℕ, zero, suc, ◌+◌, ◌<◌, ◌≤◌, Bool, true, false, not, ◌&&◌, eqb, List, [], ◌∷◌, ◌++◌, length, get_or, set, Some, None, sym, refl, ap, ◌∙◌, subst, inl, inr, arith, length-set}
 use Rattle.std.proofs.lemmas.List.{get_or-set_other, length-append, length_push}
+use Rattle.std.proofs.lemmas.Option.{none-some}
 use Rattle.std.proofs.lemmas.Bool.{and_parts, and_from, or_parts, or_from, both_ways, eq-eqb, ne_eqb, cases_Bool, cases_eq, cond-true, cond-false, true≢false}
 use Rattle.stores.specs.declared.message.Message.{Message}
 use Rattle.stores.specs.Memory.{zero_message, ends_at}
@@ -19,7 +20,7 @@ Bare bs ms = (j : ℕ) → length ms ≤ j → get_or bs j false ≡ false
 rest_bare : (b : Bool) (bs : List Bool) (m : Message) (ms : List Message) → Bare (b ∷ bs) (m ∷ ms) → Bare bs ms
 rest_bare b bs m ms h j l = h (suc j) (omega arith)
 
-pub marked_nil : (bs : List Bool) → marked bs [] ≡ []
+marked_nil : (bs : List Bool) → marked bs [] ≡ []
 marked_nil [] = refl
 marked_nil (b ∷ bs) = refl
 
@@ -87,12 +88,12 @@ marked_split (true ∷ bs) (m ∷ ms) (suc j) l h =
     (m ∷ r.0, r.1, ap (λ (k : List Message). m ∷ k) r.2, ap (λ (k : List Message). m ∷ k) r.3)
 marked_split (false ∷ bs) (m ∷ ms) (suc j) l h = marked_split bs ms j (omega arith) h
 
-pub without_none : (x t : ℕ) (ns : List Message) → ((n : Message) → In n ns → EndsAt x t n → ⊥) → without x t ns ≡ ns
+without_none : (x t : ℕ) (ns : List Message) → ((n : Message) → In n ns → EndsAt x t n → ⊥) → without x t ns ≡ ns
 without_none x t [] h = refl
 without_none x t (n ∷ ns) h =
     elim (cases_Bool (ends_at x t n)) [
       | inl b ↦ absurd (h n (inl refl) (ends_at_sound x t n b))
-      | inr b ↦ cond-false (ends_at x t n) (without x t ns) (n ∷ without x t ns) b ∙ ap (λ (k : List Message). n ∷ k) (without_none x t ns (λ p i. h p (inr i)))
+      | inr b ↦ cond-false _ _ _ b ∙ ap (λ (k : List Message). n ∷ k) (without_none x t ns (λ p i. h p (inr i)))
     ]
 
 -- clearing the mark of the message of x that ends at t leaves the others
@@ -101,7 +102,7 @@ pub marked_without : (x t : ℕ) (bs : List Bool) (ms : List Message) (j : ℕ) 
 marked_without x t [] ms j a l h e = absurd (true≢false (sym h))
 marked_without x t (b ∷ bs) [] j a l h e = absurd (omega arith)
 marked_without x t (true ∷ bs) (m ∷ ms) zero a l h e =
-    sym (cond-true (ends_at x t m) (without x t (marked bs ms)) (m ∷ without x t (marked bs ms)) (ends_at_complete x t m e)
+    sym (cond-true _ _ _ (ends_at_complete x t m e)
     ∙ without_none x t (marked bs ms) (λ n i f. (a.0 n (marked_in bs ms n i) (f.0 ∙ sym e.0)).1 (f.1 ∙ sym e.1)))
 marked_without x t (false ∷ bs) (m ∷ ms) zero a l h e = absurd (true≢false (sym h))
 marked_without x t (true ∷ bs) (m ∷ ms) (suc j) a l h e =
@@ -112,12 +113,12 @@ marked_without x t (true ∷ bs) (m ∷ ms) (suc j) a l h e =
           absurd ((a.0 n (in_at ms j zero_message (omega arith)) (e.0 ∙ sym f.0)).1 (e.1 ∙ sym f.1))
       | inr b ↦
           ap (λ (k : List Message). m ∷ k) (marked_without x t bs ms j a.1 (omega arith) h e)
-          ∙ sym (cond-false (ends_at x t m) (without x t (marked bs ms)) (m ∷ without x t (marked bs ms)) b)
+          ∙ sym (cond-false _ _ _ b)
     ]
 marked_without x t (false ∷ bs) (m ∷ ms) (suc j) a l h e = marked_without x t bs ms j a.1 (omega arith) h e
 
 -- whether anything is owed
-pub none_at : (bs : List Bool) → none_owed bs ≡ true → (j : ℕ) → get_or bs j false ≡ false
+none_at : (bs : List Bool) → none_owed bs ≡ true → (j : ℕ) → get_or bs j false ≡ false
 none_at [] e j = refl
 none_at (true ∷ bs) e j = absurd (true≢false (sym e))
 none_at (false ∷ bs) e zero = refl
@@ -133,7 +134,7 @@ owes_none (b ∷ bs) [] h e = and_from (not b) (none_owed bs) (unset b (h 0 (ome
     unset : (c : Bool) → c ≡ false → not c ≡ true
     unset true f = absurd (true≢false f)
     unset false f = refl
-owes_none (true ∷ bs) (m ∷ ms) h e = let z : ◌≡◌ {A = ℕ} 0 1 = cc in absurd (omega arith)
+owes_none (true ∷ bs) (m ∷ ms) h e = cc
 owes_none (false ∷ bs) (m ∷ ms) h e = owes_none bs ms (rest_bare false bs m ms h) e
 
 pub something : (bs : List Bool) (ms : List Message) → Bare bs ms → none_owed bs ≡ false → marked bs ms ≡ [] → ⊥
@@ -155,26 +156,23 @@ owes_at_complete x (true ∷ bs) (n ∷ ns) h =
     or_from (eqb n.location x) (owes_at x bs ns) (ne_eqb n.location x (h n (inl refl))) (owes_at_complete x bs ns (λ m i. h m (inr i)))
 owes_at_complete x (false ∷ bs) (n ∷ ns) h = owes_at_complete x bs ns h
 
-pub none_some : {Y : Type 0} (y : Y) → ◌≡◌ {A = Option Y} None (Some y) → ⊥
-none_some y e = let z : ◌≡◌ {A = ℕ} 0 1 = cc in omega arith
-
 -- the promise that is found
 abbrev OwedAt : ℕ → ℕ → List Bool → List Message → ℕ → Type 0
 OwedAt x t bs ms i = (i < length ms) × (get_or bs i false ≡ true) × EndsAt x t (get_or ms i zero_message)
 
 find_owed_from_some : (k x t : ℕ) (bs : List Bool) (ms : List Message) (j : ℕ) → find_owed_from k x t bs ms ≡ Some j
     → (i : ℕ) × (j ≡ k + i) × OwedAt x t bs ms i
-find_owed_from_some k x t [] ms j e = absurd (none_some j e)
-find_owed_from_some k x t (b ∷ bs) [] j e = absurd (none_some j e)
+find_owed_from_some k x t [] ms j e = cc
+find_owed_from_some k x t (b ∷ bs) [] j e = cc
 find_owed_from_some k x t (b ∷ bs) (m ∷ ms) j e =
     elim (cases_Bool (b && ends_at x t m)) [
       | inl h ↦
-          let s : Some k ≡ Some j = sym (cond-true (b && ends_at x t m) (Some k) (find_owed_from (k + 1) x t bs ms) h) ∙ e in
+          let s : Some k ≡ Some j = sym (cond-true _ _ _ h) ∙ e in
           let same : k ≡ j = cc in
           let p = and_parts b (ends_at x t m) h in
           (0, omega arith, (omega arith, p.0, ends_at_sound x t m p.1))
       | inr h ↦
-          let r = find_owed_from_some (k + 1) x t bs ms j (sym (cond-false (b && ends_at x t m) (Some k) (find_owed_from (k + 1) x t bs ms) h) ∙ e) in
+          let r = find_owed_from_some (k + 1) x t bs ms j (sym (cond-false _ _ _ h) ∙ e) in
           let q = r.2 in
           (suc r.0, omega arith, (omega arith, q.1, q.2))
     ]
@@ -189,11 +187,11 @@ find_owed_from_none : (k x t : ℕ) (bs : List Bool) (ms : List Message) → fin
 find_owed_from_none k x t [] ms e m i h = absurd i
 find_owed_from_none k x t (b ∷ bs) [] e m i h = absurd i
 find_owed_from_none k x t (true ∷ bs) (n ∷ ns) e m (inl i) h =
-    none_some k (sym e ∙ cond-true (ends_at x t n) (Some k) (find_owed_from (k + 1) x t bs ns) (ends_at_complete x t n (subst (EndsAt x t) i h)))
+    none-some k (sym e ∙ cond-true _ _ _ (ends_at_complete x t n (subst (EndsAt x t) i h)))
 find_owed_from_none k x t (true ∷ bs) (n ∷ ns) e m (inr i) h =
     elim (cases_Bool (ends_at x t n)) [
-      | inl b ↦ none_some k (sym e ∙ cond-true (ends_at x t n) (Some k) (find_owed_from (k + 1) x t bs ns) b)
-      | inr b ↦ find_owed_from_none (k + 1) x t bs ns (sym (cond-false (ends_at x t n) (Some k) (find_owed_from (k + 1) x t bs ns) b) ∙ e) m i h
+      | inl b ↦ none-some k (sym e ∙ cond-true _ _ _ b)
+      | inr b ↦ find_owed_from_none (k + 1) x t bs ns (sym (cond-false _ _ _ b) ∙ e) m i h
     ]
 find_owed_from_none k x t (false ∷ bs) (n ∷ ns) e m i h = find_owed_from_none (k + 1) x t bs ns e m i h
 
@@ -225,16 +223,16 @@ apart_marked (b ∷ bs) [] a = tt
 apart_marked (true ∷ bs) (m ∷ ms) a = (λ n i. a.0 n (marked_in bs ms n i), apart_marked bs ms a.1)
 apart_marked (false ∷ bs) (m ∷ ms) a = apart_marked bs ms a.1
 
-pub without_one : (m : Message) (before later : List Message) → Apart (before ++ (m ∷ later)) → without m.location m.to (before ++ (m ∷ later)) ≡ before ++ later
+pub without_one : (m : Message) (before later : List Message) → Apart (before ++ (m ∷ later)) → without m.location m.span.to (before ++ (m ∷ later)) ≡ before ++ later
 without_one m [] later a =
-    cond-true (ends_at m.location m.to m) (without m.location m.to later) (m ∷ without m.location m.to later) (ends_at_complete m.location m.to m (refl, refl))
-    ∙ without_none m.location m.to later (λ n i e. (a.0 n i e.0).1 e.1)
+    cond-true _ _ _ (ends_at_complete m.location m.span.to m (refl, refl))
+    ∙ without_none m.location m.span.to later (λ n i e. (a.0 n i e.0).1 e.1)
 without_one m (b ∷ before) later a =
-    elim (cases_Bool (ends_at m.location m.to b)) [
+    elim (cases_Bool (ends_at m.location m.span.to b)) [
       | inl h ↦
-          let e = ends_at_sound m.location m.to b h in
+          let e = ends_at_sound m.location m.span.to b h in
           absurd ((a.0 m (in_right m before (m ∷ later) (inl refl)) (sym e.0)).1 (sym e.1))
       | inr h ↦
-          cond-false (ends_at m.location m.to b) (without m.location m.to (before ++ (m ∷ later))) (b ∷ without m.location m.to (before ++ (m ∷ later))) h
+          cond-false _ _ _ h
           ∙ ap (λ (k : List Message). b ∷ k) (without_one m before later a.1)
     ]

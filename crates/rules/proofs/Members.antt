@@ -45,30 +45,30 @@ in_map_back f n (x ∷ xs) (inl e) = (x, inl refl, e)
 in_map_back f n (x ∷ xs) (inr h) = let r = in_map_back f n xs h in (r.0, inr r.1, r.2)
 
 -- of messages that stand apart only one has an end at a location
-pub unique : (ms : List Message) → Apart ms → (m n : Message) → In m ms → In n ms → m.location ≡ n.location → m.to ≡ n.to → m ≡ n
+pub unique : (ms : List Message) → Apart ms → (m n : Message) → In m ms → In n ms → m.location ≡ n.location → m.span.to ≡ n.span.to → m ≡ n
 unique [] a m n i j l t = absurd i
 unique (p ∷ ps) a m n (inl i) (inl j) l t = i ∙ sym j
 unique (p ∷ ps) a m n (inl i) (inr j) l t =
-    absurd ((a.0 n j (sym l ∙ ap (λ (q : Message). q.location) i)).1 (sym t ∙ ap (λ (q : Message). q.to) i))
+    absurd ((a.0 n j (sym l ∙ ap (λ (q : Message). q.location) i)).1 (sym t ∙ ap (λ (q : Message). q.span.to) i))
 unique (p ∷ ps) a m n (inr i) (inl j) l t =
-    absurd ((a.0 m i (l ∙ ap (λ (q : Message). q.location) j)).1 (t ∙ ap (λ (q : Message). q.to) j))
+    absurd ((a.0 m i (l ∙ ap (λ (q : Message). q.location) j)).1 (t ∙ ap (λ (q : Message). q.span.to) j))
 unique (p ∷ ps) a m n (inr i) (inr j) l t = unique ps a.1 m n i j l t
 
 -- the second neither overlaps the first nor ends where it ends
 abbrev pub Off : Message → Message → Type 0
-Off n m = m.location ≡ n.location → (Overlaps n.location n.from n.to m → ⊥) × (m.to ≡ n.to → ⊥)
+Off n m = m.location ≡ n.location → (Overlaps n.location n.span m → ⊥) × (m.span.to ≡ n.span.to → ⊥)
 
 pub apart_push : (m : Message) (ms : List Message) → Apart ms → ((n : Message) → In n ms → Off n m) → Apart (ms ++ (m ∷ []))
 apart_push m [] a h = (λ n i. absurd i, tt)
 apart_push m (n ∷ ns) a h = (in_push (Off n) ns m a.0 (h n (inl refl)), apart_push m ns a.1 (λ p i. h p (inr i)))
 
 -- a free span stands apart from what is there
-pub free_off : (m : Message) → m.from < m.to → (ms : List Message) → ((n : Message) → In n ms → WellFormed n) → Free m.location m.from m.to ms
+pub free_off : (m : Message) → m.span.from < m.span.to → (ms : List Message) → ((n : Message) → In n ms → WellFormed n) → Free m.location m.span ms
     → (n : Message) → In n ms → Off n m
 free_off m span ms w f n i l = (λ o. f n i (sym l, o.2, o.1), λ e. ends (w n i) e)
   where
-    ends : WellFormed n → m.to ≡ n.to → ⊥
-    ends (inl z) e = let t : n.to ≡ 0 = ap (λ (q : Message). q.to) z in omega arith
+    ends : WellFormed n → m.span.to ≡ n.span.to → ⊥
+    ends (inl z) e = let t : n.span.to ≡ 0 = ap (λ (q : Message). q.span.to) z in omega arith
     ends (inr s) e = f n i (sym l, omega arith, omega (arith, s.0))
 
 pub known_more : (ms xs : List Message) (v : View) → Known ms v → Known (ms ++ xs) v

@@ -1,6 +1,7 @@
 -- What the history of a run says of it. Assumes nothing.
 use Rattle.std.proofs.Common.{◌≡◌, ℕ, ◌<◌, ◌≤◌, Bool, cond, ◌&&◌, eqb, ltb, ◌⊎◌, List, [], ◌∷◌, ◌++◌, length, get_or, Some, None, Option, sym, refl, ap, ◌∙◌, subst, inl, inr, append_assoc, append-nil, arith, length-set}
 use Rattle.std.proofs.lemmas.Bool.{and_parts, eqb-true, eq-eqb, ne_eqb, ltb-true, cond-true, cond-false, cond_both}
+use Rattle.lines.specs.declared.span.Span.{Span}
 use Rattle.lines.specs.declared.trace.Line.{Line}
 use Rattle.lines.specs.declared.trace.Line.TheVariants.{Turn as T, Next as N, Read as R, Write as W, Update as U, Promise as G, Keep as H, Show as X, EndTurn as E}
 use Rattle.languages.specs.declared.action.ReadMode.{ReadMode}
@@ -15,16 +16,16 @@ use Rattle.rules.specs.declared.fault.StepFault.TheVariants.{Range, Moment, Stil
 use Rattle.rules.specs.Models.{Thread, Part, Phase, between, turn, showing, Run, nobody, thread_at, part_at, with_part, in_phase}
 use Rattle.rules.specs.Threads.{marked, none_owed, read_cur, write_views}
 use Rattle.rules.specs.Rules.{Tried, went, refused, written, updated_message, update_views, promised_message, promise_result, act_result, lifted, act_in, promise_in, begin_in, closing_line, saved, show_in, put_back, end_in, line_result}
-use Rattle.rules.specs.Alone.{Lone, lone, Alone, silent, acquire_fence, release_fence, both_fence, sequential_fence, print, read, write, update, keep}
+use Rattle.rules.specs.Alone.{Lone, lone, onward, Alone, silent, acquire_fence, release_fence, both_fence, sequential_fence, print, read, write, update, keep}
 use Rattle.rules.specs.Steps.{lone_at}
 use Rattle.rules.specs.Histories.{Event, was_read, was_written, was_updated, was_promised, was_kept, read_event, write_event, replaced, update_of, update_event, keep_event, event, Place, shows_at, moves, moved, place_of, event_in, counted, settled, played, placed, history, messages, without, owes_after, if_this, times, updates, undone_in, undone}
 use Rattle.rules.specs.Laws.{IsIn, Distinct, RisingFrom, Apart}
 use Rattle.rules.proofs.Members.{in_left, in_last}
 use Rattle.rules.proofs.Marked.{marked_more, marked_promise, apart_marked, without_one}
-use Rattle.rules.proofs.Accepts.{When, Acted}
+use Rattle.rules.proofs.Accepts.{When, when_passed, when_missed}
 use Rattle.rules.proofs.Preserved.{write_within, reads_within, update_within}
 use Rattle.rules.proofs.Complete.{find_complete}
-use Rattle.rules.proofs.Sound.{Good, at_set, Changed, acted_changed, SoundAt, Sound, same_back, acting, when_lifted, Promised, promising, promised_changed, shown_back, line_sound}
+use Rattle.rules.proofs.Sound.{Good, at_set, Changed, acted_changed, SoundAt, Sound, same_back, when_acted, Promised, when_promised, promised_changed, shown_back, line_sound}
 
 -- times that begin at or above lo, never fall, and end at or below hi
 abbrev Rises : ℕ → List ℕ → ℕ → Type 0
@@ -33,7 +34,7 @@ Rises lo (t ∷ ts) hi = (lo ≤ t) × Rises t ts hi
 
 -- a message that begins where another at its location ends
 abbrev Taken : List Message → (ℕ × ℕ) → Type 0
-Taken ms p = (m : Message) × In m ms × (m.location ≡ p.0) × (m.from ≡ p.1) × (m.from < m.to)
+Taken ms p = (m : Message) × In m ms × (m.location ≡ p.0) × (m.span.from ≡ p.1) × (m.span.from < m.span.to)
 
 -- what the events of one line of thread i say of the thread and of the memory
 record Told (i : ℕ) (k : Lone) (M : List Message) (k' : Lone) (M' : List Message) (es : List Event) : Type 0 where
@@ -48,17 +49,17 @@ record Told (i : ℕ) (k : Lone) (M : List Message) (k' : Lone) (M' : List Messa
 -- times of one access
 this_rises : (i x y : ℕ) (ts : List ℕ) (lo hi : ℕ) → lo ≤ hi → (y ≡ x → Rises lo ts hi) → Rises lo (if_this i x i y ts ++ []) hi
 this_rises i x y ts lo hi le h =
-    cond_both (eqb i i && eqb y x) ts [] (λ us. Rises lo (us ++ []) hi)
+    cond_both _ _ _ (λ us. Rises lo (us ++ []) hi)
     (λ e. subst (λ (us : List ℕ). Rises lo us hi) (sym (append-nil ts)) (h (eqb-true y x (and_parts (eqb i i) (eqb y x) e).1))) (λ _. le)
 
 not_this : (i j x y : ℕ) (ts : List ℕ) → (i ≡ j → ⊥) → if_this j x i y ts ++ [] ≡ []
 not_this i j x y ts ne = ap (λ (b : Bool). cond (b && eqb y x) ts [] ++ []) (ne_eqb i j ne)
 
 kept_other : (i j : ℕ) (ms ns : List Message) → (i ≡ j → ⊥) → cond (eqb i j) ms ns ≡ ns
-kept_other i j ms ns ne = cond-false (eqb i j) ms ns (ne_eqb i j ne)
+kept_other i j ms ns ne = cond-false _ _ _ (ne_eqb i j ne)
 
 kept_own : (i : ℕ) (ms ns : List Message) → cond (eqb i i) ms ns ≡ ms
-kept_own i ms ns = cond-true (eqb i i) ms ns (eq-eqb i i refl)
+kept_own i ms ns = cond-true _ _ _ (eq-eqb i i refl)
 
 single_end : (v : View) (x t : ℕ) → x < 8 → t ≤ at (join v (single x t)) x
 single_end v x t lt = let a = at_join v (single x t) x in let b = at_single x t lt in omega arith
@@ -110,7 +111,7 @@ module _ (i : ℕ) (r : Run) (g : Good r) where
   told {k' = k'} (print v e n) = ([], refl, quiet k' refl (λ x. omega arith))
   told {k' = k'} (read o m e h le τ) =
       let x = m.location in
-      let t = m.to in
+      let t = m.span.to in
       let lt : x < l = reads_within l (k.does []).next x o e in
       let few = g.few in (
         was_read i x t ∷ [],
@@ -126,12 +127,13 @@ module _ (i : ℕ) (r : Run) (g : Good r) where
           one = tt;
         },
       )
-  told {k' = k'} (write x v o f t e n less span free up) =
-      let m = written x v f t (write_views o x t k.views) in
+  told {k' = k'} (write x v o s e n less span free up) =
+      let t = s.to in
+      let m = written x v s (write_views o x t k.views) in
       let lt : x < l = write_within l (k.does []).next x v o e in
       let few = g.few in (
         was_written i m ∷ [],
-        ap (write_event i k f t) e,
+        ap (write_event i k s) e,
         record {
           memory = refl;
           owed = refl;
@@ -145,17 +147,18 @@ module _ (i : ℕ) (r : Run) (g : Good r) where
       )
   told {k' = k'} (update o w m v t e n h le τ span free up) =
       let x = m.location in
-      let f = m.to in
-      let vs = update_views o w x f t m.view k.views in
-      let m' = updated_message x v f t m.view vs in
+      let f = m.span.to in
+      let s = onward m t in
+      let vs = update_views o w x s m.view k.views in
+      let m' = updated_message x v s m.view vs in
       let lt : x < l = update_within l (k.does []).next x o w e in
       let few = g.few in
       let c = read_cur o x f m.view k.views.cur in
       let fc = find_complete M m g.sane.apart h in
-      let by-message : Message → List Event = λ q. was_updated i f (updated_message x (replaced ((k.does []).takes q.value)) f t q.view (update_views o w x f t q.view k.views)) ∷ [] in
-      let by-taking : Taking → List Event = λ a. was_updated i f (updated_message x (replaced a) f t m.view vs) ∷ [] in (
+      let by-message : Message → List Event = λ q. was_updated i f (updated_message x (replaced ((k.does []).takes q.value)) s q.view (update_views o w x s q.view k.views)) ∷ [] in
+      let by-taking : Taking → List Event = λ a. was_updated i f (updated_message x (replaced a) s m.view vs) ∷ [] in (
         was_updated i f m' ∷ [],
-        ap (update_event i k f t M) e ∙ ap (update_of i k x o w f t M) fc.1 ∙ ap by-message fc.2 ∙ ap by-taking τ,
+        ap (update_event i k s M) e ∙ ap (update_of i k x o w s M) fc.1 ∙ ap by-message fc.2 ∙ ap by-taking τ,
         record {
           memory = refl;
           owed = refl;
@@ -169,17 +172,17 @@ module _ (i : ℕ) (r : Run) (g : Good r) where
         },
       )
     where
-      once : (p : ℕ × ℕ) → IsIn p ((m.location, m.to) ∷ [])
-          → (Taken M p → ⊥) × Taken (M ++ (updated_message m.location v m.to t m.view (update_views o w m.location m.to t m.view k.views) ∷ [])) p
+      once : (p : ℕ × ℕ) → IsIn p ((m.location, m.span.to) ∷ [])
+          → (Taken M p → ⊥) × Taken (M ++ (updated_message m.location v (onward m t) m.view (update_views o w m.location (onward m t) m.view k.views) ∷ [])) p
       once p (inl q) =
           let qx : p.0 ≡ m.location = ap (λ (z : ℕ × ℕ). z.0) q in
-          let qf : p.1 ≡ m.to = ap (λ (z : ℕ × ℕ). z.1) q in
-          let m' = updated_message m.location v m.to t m.view (update_views o w m.location m.to t m.view k.views) in
+          let qf : p.1 ≡ m.span.to = ap (λ (z : ℕ × ℕ). z.1) q in
+          let m' = updated_message m.location v (onward m t) m.view (update_views o w m.location (onward m t) m.view k.views) in
           ((λ b. let d = b.3 in let s = b.4 in free b.0 b.1 (b.2 ∙ qx, omega arith, omega arith)), (m', in_last m' M, sym qx, sym qf, span))
       once p (inr q) = absurd q
   told {k' = k'} (keep m before later e o less) =
       let x = m.location in
-      let t = m.to in
+      let t = m.span.to in
       let lt : x < l = write_within l (k.does []).next x m.value _ e in
       let few = g.few in (
         was_kept i x t ∷ [],
@@ -250,16 +253,16 @@ part_past r i p es e lt g c t =
         (λ q. subst (λ (n : ℕ). Rises (at (thread_at r n).views.cur x) (times n x es) (at p.thread.views.cur x)) (sym q) (t.risen x))
         (λ ne. subst (λ (ts : List ℕ). Rises (at (thread_at r j).views.cur x) ts (at (thread_at r j).views.cur x)) (sym (t.still j (λ q. ne (sym q)) x)) (omega arith))
 
-promise_told : (r : Run) (i x v f t : ℕ) (p : Part) → Good r → Promised r i x v f t p
-    → Told i (lone_at r i) r.memory (lone p.thread p.memory) p.memory (was_promised i (promised_message (thread_at r i).views x v f t) ∷ [])
-promise_told r i x v f t p g a =
+promise_told : (r : Run) (i x v : ℕ) (s : Span) (p : Part) → Good r → Promised r i x v s p
+    → Told i (lone_at r i) r.memory (lone p.thread p.memory) p.memory (was_promised i (promised_message (thread_at r i).views x v s) ∷ [])
+promise_told r i x v s p g a =
     let k = thread_at r i in
-    let m = promised_message k.views x v f t in
+    let m = promised_message k.views x v s in
     subst (λ (q : Part). Told i (lone_at r i) r.memory (lone q.thread q.memory) q.memory (was_promised i m ∷ [])) (sym a.is)
     (record {
       memory = refl;
       owed =
-          marked_promise k.owed r.memory m (let b = (g.marks i).0 in let d = a.room in let s = g.small in omega arith) (g.marks i).1
+          marked_promise k.owed r.memory m (let b = (g.marks i).0 in let d = a.room in let z = g.small in omega arith) (g.marks i).1
           ∙ sym (kept_own i ((lone_at r i).owed ++ (m ∷ [])) (lone_at r i).owed);
       others = λ j ne ms. kept_other i j (ms ++ (m ∷ [])) ms ne;
       risen = λ y. omega arith;
@@ -271,13 +274,12 @@ promise_told r i x v f t p g a =
 act_counted : (line : Line) (r : Run) (ph : Phase) → r.phase ≡ ph → SoundAt r ph → When (λ r'. Counted r r' (event_in (place_of ph) line r)) (act_in r line ph)
 act_counted line r between e h = tt
 act_counted line r (turn i) e h =
-    when_lifted r i (λ p. Acted r.locations i None line (part_at r i) p) (λ r'. Counted r r' (event i line r)) (act_result r.locations i None line (part_at r i)) (acting r i None line h.1)
+    when_acted r i None line (λ r'. Counted r r' (event i line r)) h.1
     (λ p a. let t = told i r h.1 a.step in
     subst (Counted r (with_part r i p)) (sym t.1) (part_past r i p t.0 e h.0 h.1 (acted_changed r i None line p h.1 a) t.2))
 act_counted line r (showing i s cl) e h =
-    cond_both (none_owed (thread_at r i).owed) (refused Moment) (lifted r i (act_result r.locations i (Some cl) line (part_at r i))) (When (λ r'. Counted r r' []))
-    (λ _. tt)
-    (λ _. when_lifted r i (λ p. Acted r.locations i (Some cl) line (part_at r i) p) (λ r'. Counted r r' []) (act_result r.locations i (Some cl) line (part_at r i)) (acting r i (Some cl) line h.good)
+    when_missed (λ r'. Counted r r' []) (none_owed (thread_at r i).owed) (lifted r i (act_result r.locations i (Some cl) line (part_at r i))) Moment
+    (λ _. when_acted r i (Some cl) line (λ r'. Counted r r' []) h.good
     (λ p a.
     let c = acted_changed r i (Some cl) line p h.good a in
     let back : undone (with_part r i p) ≡ undone r = ap (undone_in (with_part r i p)) e ∙ same_back r i p s h.messages h.prints c ∙ sym (ap (undone_in r) e) in
@@ -290,12 +292,12 @@ begin_counted r i between e =
 begin_counted r i (turn j) e = tt
 begin_counted r i (showing j s cl) e = tt
 
-promise_counted : (r : Run) (x v f t : ℕ) (ph : Phase) → x < r.locations → r.phase ≡ ph → SoundAt r ph → When (λ r'. Counted r r' (event_in (place_of ph) (G x v f t) r)) (promise_in r x v f t ph)
-promise_counted r x v f t between here e h = tt
-promise_counted r x v f t (turn i) here e h =
-    when_lifted r i (Promised r i x v f t) (λ r'. Counted r r' (event i (G x v f t) r)) (promise_result x v f t (part_at r i)) (promising r i x v f t)
-    (λ p a. part_past r i p (was_promised i (promised_message (thread_at r i).views x v f t) ∷ []) e h.0 h.1 (promised_changed r i x v f t p here h.1 a) (promise_told r i x v f t p h.1 a))
-promise_counted r x v f t (showing i s cl) here e h = tt
+promise_counted : (r : Run) (x v : ℕ) (s : Span) (ph : Phase) → x < r.locations → r.phase ≡ ph → SoundAt r ph → When (λ r'. Counted r r' (event_in (place_of ph) (G x v s) r)) (promise_in r x v s ph)
+promise_counted r x v s between here e h = tt
+promise_counted r x v s (turn i) here e h =
+    when_promised r i x v s (λ r'. Counted r r' (event i (G x v s) r))
+    (λ p a. part_past r i p (was_promised i (promised_message (thread_at r i).views x v s) ∷ []) e h.0 h.1 (promised_changed r i x v s p here h.1 a) (promise_told r i x v s p h.1 a))
+promise_counted r x v s (showing i sv cl) here e h = tt
 
 show_counted : (r : Run) (ph : Phase) → r.phase ≡ ph → When (λ r'. Counted r r' (event_in (place_of ph) X r)) (show_in r ph)
 show_counted r between e = tt
@@ -304,7 +306,7 @@ show_counted r (turn i) e =
     let ph = showing i (saved r i) cl in
     let now : undone r ≡ r = ap (undone_in r) e in
     let back = shown_back r i ph in
-    cond_both (none_owed (thread_at r i).owed) (refused Moment) (went (in_phase r ph)) (When (λ r'. Counted r r' [])) (λ _. tt)
+    when_missed (λ r'. Counted r r' []) (none_owed (thread_at r i).owed) (went (in_phase r ph)) Moment
     (λ _. same_past r (in_phase r ph) refl refl (ap (λ (q : Run). q.threads) back ∙ ap (λ (q : Run). q.threads) (sym now)) (ap (λ (q : Run). q.memory) back ∙ ap (λ (q : Run). q.memory) (sym now)))
 show_counted r (showing i s cl) e = tt
 
@@ -312,24 +314,24 @@ end_counted : (r : Run) (ph : Phase) → r.phase ≡ ph → When (λ r'. Counted
 end_counted r between e = tt
 end_counted r (turn i) e =
     let now : undone r ≡ r = ap (undone_in r) e in
-    cond_both (none_owed (thread_at r i).owed) (went (in_phase r between)) (refused StillOwing) (When (λ r'. Counted r r' []))
-    (λ _. same_past r (in_phase r between) refl refl (ap (λ (q : Run). q.threads) (sym now)) (ap (λ (q : Run). q.memory) (sym now))) (λ _. tt)
+    when_passed (λ r'. Counted r r' []) (none_owed (thread_at r i).owed) (went (in_phase r between)) StillOwing
+    (λ _. same_past r (in_phase r between) refl refl (ap (λ (q : Run). q.threads) (sym now)) (ap (λ (q : Run). q.memory) (sym now)))
 end_counted r (showing i s cl) e =
     let now : undone r ≡ put_back r i s = ap (undone_in r) e in
-    cond_both (none_owed (thread_at r i).owed) (went (in_phase (put_back r i s) between)) (refused StillOwing) (When (λ r'. Counted r r' []))
-    (λ _. same_past r (in_phase (put_back r i s) between) (length-set r.threads i s.thread) refl (ap (λ (q : Run). q.threads) (sym now)) (ap (λ (q : Run). q.memory) (sym now))) (λ _. tt)
+    when_passed (λ r'. Counted r r' []) (none_owed (thread_at r i).owed) (went (in_phase (put_back r i s) between)) StillOwing
+    (λ _. same_past r (in_phase (put_back r i s) between) (length-set r.threads i s.thread) refl (ap (λ (q : Run). q.threads) (sym now)) (ap (λ (q : Run). q.memory) (sym now)))
 
 line_counted : (line : Line) (r : Run) → Sound r → When (λ r'. Counted r r' (event_in (place_of r.phase) line r)) (line_result line r)
 line_counted (T i) r h =
-    cond_both (ltb i (length r.threads)) (begin_in r i r.phase) (refused Range) (When (λ r'. Counted r r' (event_in (place_of r.phase) (T i) r)))
-    (λ _. begin_counted r i r.phase refl) (λ _. tt)
+    when_passed (λ r'. Counted r r' (event_in (place_of r.phase) (T i) r)) (ltb i (length r.threads)) (begin_in r i r.phase) Range
+    (λ _. begin_counted r i r.phase refl)
 line_counted N r h = act_counted N r r.phase refl h
 line_counted (R t) r h = act_counted (R t) r r.phase refl h
-line_counted (W f t) r h = act_counted (W f t) r r.phase refl h
-line_counted (U f t) r h = act_counted (U f t) r r.phase refl h
-line_counted (G x v f t) r h =
-    cond_both (ltb x r.locations) (promise_in r x v f t r.phase) (refused Range) (When (λ r'. Counted r r' (event_in (place_of r.phase) (G x v f t) r)))
-    (λ lt. promise_counted r x v f t r.phase (ltb-true x r.locations lt) refl h) (λ _. tt)
+line_counted (W s) r h = act_counted (W s) r r.phase refl h
+line_counted (U s) r h = act_counted (U s) r r.phase refl h
+line_counted (G x v s) r h =
+    when_passed (λ r'. Counted r r' (event_in (place_of r.phase) (G x v s) r)) (ltb x r.locations) (promise_in r x v s r.phase) Range
+    (λ lt. promise_counted r x v s r.phase (ltb-true x r.locations lt) refl h)
 line_counted (H t) r h = act_counted (H t) r r.phase refl h
 line_counted X r h = show_counted r r.phase refl
 line_counted E r h = end_counted r r.phase refl
@@ -351,40 +353,40 @@ act_place : (line : Line) (r : Run) (ph : Phase) → When (λ r'. place_of r'.ph
 act_place line r between = tt
 act_place line r (turn i) = lifted_place r i (place_of r.phase) (act_result r.locations i None line (part_at r i)) refl
 act_place line r (showing i s cl) =
-    cond_both (none_owed (thread_at r i).owed) (refused Moment) (lifted r i (act_result r.locations i (Some cl) line (part_at r i))) (When (λ r'. place_of r'.phase ≡ place_of r.phase))
-    (λ _. tt) (λ _. lifted_place r i (place_of r.phase) (act_result r.locations i (Some cl) line (part_at r i)) refl)
+    when_missed (λ r'. place_of r'.phase ≡ place_of r.phase) (none_owed (thread_at r i).owed) (lifted r i (act_result r.locations i (Some cl) line (part_at r i))) Moment
+    (λ _. lifted_place r i (place_of r.phase) (act_result r.locations i (Some cl) line (part_at r i)) refl)
 
 begin_place : (r : Run) (i : ℕ) (ph : Phase) → When (Led r (T i)) (begin_in r i ph)
 begin_place r i between = refl
 begin_place r i (turn j) = tt
 begin_place r i (showing j s cl) = tt
 
-promise_place : (r : Run) (x v f t : ℕ) (ph : Phase) → When (Led r (G x v f t)) (promise_in r x v f t ph)
-promise_place r x v f t between = tt
-promise_place r x v f t (turn i) = lifted_place r i (place_of r.phase) (promise_result x v f t (part_at r i)) refl
-promise_place r x v f t (showing i s cl) = tt
+promise_place : (r : Run) (x v : ℕ) (s : Span) (ph : Phase) → When (Led r (G x v s)) (promise_in r x v s ph)
+promise_place r x v s between = tt
+promise_place r x v s (turn i) = lifted_place r i (place_of r.phase) (promise_result x v s (part_at r i)) refl
+promise_place r x v s (showing i sv cl) = tt
 
 show_place : (r : Run) (ph : Phase) → r.phase ≡ ph → When (Led r X) (show_in r ph)
 show_place r between e = tt
 show_place r (turn i) e =
-    cond_both (none_owed (thread_at r i).owed) (refused Moment) (went (in_phase r (showing i (saved r i) (closing_line r.memory)))) (When (Led r X))
-    (λ _. tt) (λ _. sym (ap (λ (ph : Phase). shows_at (place_of ph)) e))
+    when_missed (Led r X) (none_owed (thread_at r i).owed) (went (in_phase r (showing i (saved r i) (closing_line r.memory)))) Moment
+    (λ _. sym (ap (λ (ph : Phase). shows_at (place_of ph)) e))
 show_place r (showing i s cl) e = tt
 
 end_place : (r : Run) (ph : Phase) → When (Led r E) (end_in r ph)
 end_place r between = tt
-end_place r (turn i) = cond_both (none_owed (thread_at r i).owed) (went (in_phase r between)) (refused StillOwing) (When (Led r E)) (λ _. refl) (λ _. tt)
+end_place r (turn i) = when_passed (Led r E) (none_owed (thread_at r i).owed) (went (in_phase r between)) StillOwing (λ _. refl)
 end_place r (showing i s cl) =
-    cond_both (none_owed (thread_at r i).owed) (went (in_phase (put_back r i s) between)) (refused StillOwing) (When (Led r E)) (λ _. refl) (λ _. tt)
+    when_passed (Led r E) (none_owed (thread_at r i).owed) (went (in_phase (put_back r i s) between)) StillOwing (λ _. refl)
 
 line_place : (line : Line) (r : Run) → When (Led r line) (line_result line r)
-line_place (T i) r = cond_both (ltb i (length r.threads)) (begin_in r i r.phase) (refused Range) (When (Led r (T i))) (λ _. begin_place r i r.phase) (λ _. tt)
+line_place (T i) r = when_passed (Led r (T i)) (ltb i (length r.threads)) (begin_in r i r.phase) Range (λ _. begin_place r i r.phase)
 line_place N r = act_place N r r.phase
 line_place (R t) r = act_place (R t) r r.phase
-line_place (W f t) r = act_place (W f t) r r.phase
-line_place (U f t) r = act_place (U f t) r r.phase
-line_place (G x v f t) r =
-    cond_both (ltb x r.locations) (promise_in r x v f t r.phase) (refused Range) (When (Led r (G x v f t))) (λ _. promise_place r x v f t r.phase) (λ _. tt)
+line_place (W s) r = act_place (W s) r r.phase
+line_place (U s) r = act_place (U s) r r.phase
+line_place (G x v s) r =
+    when_passed (Led r (G x v s)) (ltb x r.locations) (promise_in r x v s r.phase) Range (λ _. promise_place r x v s r.phase)
 line_place (H t) r = act_place (H t) r r.phase
 line_place X r = show_place r r.phase refl
 line_place E r = end_place r r.phase
@@ -419,9 +421,9 @@ times_append j x [] fs = refl
 times_append j x (was_read i y t ∷ es) fs =
     ap (λ (ts : List ℕ). if_this j x i y (t ∷ []) ++ ts) (times_append j x es fs) ∙ sym (append_assoc (if_this j x i y (t ∷ [])) (times j x es) (times j x fs))
 times_append j x (was_written i m ∷ es) fs =
-    ap (λ (ts : List ℕ). if_this j x i m.location (m.to ∷ []) ++ ts) (times_append j x es fs) ∙ sym (append_assoc (if_this j x i m.location (m.to ∷ [])) (times j x es) (times j x fs))
+    ap (λ (ts : List ℕ). if_this j x i m.location (m.span.to ∷ []) ++ ts) (times_append j x es fs) ∙ sym (append_assoc (if_this j x i m.location (m.span.to ∷ [])) (times j x es) (times j x fs))
 times_append j x (was_updated i f m ∷ es) fs =
-    ap (λ (ts : List ℕ). if_this j x i m.location (f ∷ m.to ∷ []) ++ ts) (times_append j x es fs) ∙ sym (append_assoc (if_this j x i m.location (f ∷ m.to ∷ [])) (times j x es) (times j x fs))
+    ap (λ (ts : List ℕ). if_this j x i m.location (f ∷ m.span.to ∷ []) ++ ts) (times_append j x es fs) ∙ sym (append_assoc (if_this j x i m.location (f ∷ m.span.to ∷ [])) (times j x es) (times j x fs))
 times_append j x (was_promised i m ∷ es) fs = times_append j x es fs
 times_append j x (was_kept i y t ∷ es) fs =
     ap (λ (ts : List ℕ). if_this j x i y (t ∷ []) ++ ts) (times_append j x es fs) ∙ sym (append_assoc (if_this j x i y (t ∷ [])) (times j x es) (times j x fs))

@@ -9,7 +9,7 @@ use Rattle.stores.specs.StoreLaws.{In}
 use Rattle.rules.specs.Models.{Thread, Run, thread_at}
 use Rattle.rules.specs.Threads.{next_of, write_views, written, update_views, updated_message, promised_message}
 use Rattle.rules.specs.Rules.{Tried, went, refused, line_result}
-use Rattle.rules.specs.Alone.{Lone, Alone, silent, acquire_fence, release_fence, both_fence, sequential_fence, print, read, write, update, keep}
+use Rattle.rules.specs.Alone.{Lone, onward, Alone, silent, acquire_fence, release_fence, both_fence, sequential_fence, print, read, write, update, keep}
 use Rattle.rules.specs.Steps.{printed, Acting, in_turn, in_showing, Step, begins, acts, promises, shows, ends_turn, ends_showing}
 use Rattle.rules.specs.Histories.{settled, played}
 use Rattle.rules.specs.Laws.{IsIn}
@@ -40,10 +40,10 @@ step_places (both_fence e n) h = h
 step_places (sequential_fence e n) h = h
 step_places (print v e n) h = h
 step_places (read o m e i le τ) h = h
-step_places {l = l} {k = k} {M = M} (write x v o f t e n less span free up) h =
-    in_push (λ n. n.location < l) M (written x v f t (write_views o x t k.views)) h (write_within l (k.does []).next x v o e)
+step_places {l = l} {k = k} {M = M} (write x v o s e n less span free up) h =
+    in_push (λ n. n.location < l) M (written x v s (write_views o x s.to k.views)) h (write_within l (k.does []).next x v o e)
 step_places {l = l} {k = k} {M = M} (update o w m v t e n i le τ span free up) h =
-    in_push (λ n. n.location < l) M (updated_message m.location v m.to t m.view (update_views o w m.location m.to t m.view k.views)) h
+    in_push (λ n. n.location < l) M (updated_message m.location v (onward m t) m.view (update_views o w m.location (onward m t) m.view k.views)) h
     (update_within l (k.does []).next m.location o w e)
 step_places (keep m before later e o less) h = h
 
@@ -87,8 +87,8 @@ module _ (r : Run) (s : Sound r) (h : Inside r) where
   step_inside (acts i closing k S M act a marks room prints) =
       let next = next_of r.locations (thread_at r i).does in
       (step_places a h.0, as_many i k (r.log ++ printed i next) (said i next (acting_inside act)))
-  step_inside (promises i x v f t e lt less span free room) = (
-    in_push (λ n. n.location < r.locations) r.memory (promised_message (thread_at r i).views x v f t) h.0 lt,
+  step_inside (promises i x v s e lt less span free room) = (
+    in_push (λ n. n.location < r.locations) r.memory (promised_message (thread_at r i).views x v s) h.0 lt,
     as_many i _ r.log h.1,
   )
   step_inside (shows i e n) = h

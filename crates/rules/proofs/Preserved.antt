@@ -1,5 +1,5 @@
 -- What a thread's own steps keep: views know only ends that are there, and messages stay well formed and apart. Assumes nothing.
-use Rattle.std.proofs.Common.{◌≡◌, ℕ, ◌<◌, ◌≤◌, ltb, ◌⊎◌, List, [], ◌∷◌, ◌++◌, length, get_or, set, replicate, Some, Option, sym, refl, ap, ◌∙◌, subst, inl, inr, append-nil, arith, length-set}
+use Rattle.std.proofs.Common.{◌≡◌, ℕ, ◌<◌, ◌≤◌, ◌⊎◌, List, [], ◌∷◌, ◌++◌, length, get_or, set, replicate, Some, Option, sym, refl, ap, ◌∙◌, subst, inl, inr, append-nil, arith, length-set}
 use lib.ListN.{length-replicate}
 use Rattle.std.proofs.lemmas.List.{get_or-set_same, get_or-set_other, set_past, get_or-replicate, get_or_past}
 use Rattle.std.proofs.lemmas.Bool.{cases_eq, cases_lt, ltb-true, cond_both}
@@ -18,9 +18,8 @@ use Rattle.stores.proofs.ViewLaws.{at_join, at_zero, at_single, at_single_other,
 use Rattle.rules.specs.Models.{Views}
 use Rattle.rules.specs.Threads.{within, reads, rel_at, read_cur, read_views, write_rel, write_views, acquire_views, release_views, all_views}
 use Rattle.rules.specs.Rules.{written, updated_message, update_views}
-use Rattle.rules.specs.Alone.{Lone, Alone, silent, acquire_fence, release_fence, both_fence, sequential_fence, print, read, write, update, keep}
+use Rattle.rules.specs.Alone.{Lone, onward, Alone, silent, acquire_fence, release_fence, both_fence, sequential_fence, print, read, write, update, keep}
 use Rattle.rules.specs.Laws.{WellFormed, Apart, Known, KnownViews, Ordered}
-use Rattle.rules.proofs.Marked.{none_some}
 use Rattle.rules.proofs.Members.{in_left, in_right, in_last, in_split, in_push, apart_push, free_off, known_more}
 
 -- an action's location, if it has one, is below l
@@ -35,9 +34,9 @@ Placed l Ended = Unit {0}
 
 within_placed : (l : ℕ) (a : Action) → Placed l (within l a)
 within_placed l Silent = tt
-within_placed l (Read x o) = cond_both (ltb x l) (Read x o) Ended (Placed l) (ltb-true x l) (λ _. tt)
-within_placed l (Write x v o) = cond_both (ltb x l) (Write x v o) Ended (Placed l) (ltb-true x l) (λ _. tt)
-within_placed l (Update x o w) = cond_both (ltb x l) (Update x o w) Ended (Placed l) (ltb-true x l) (λ _. tt)
+within_placed l (Read x o) = cond_both _ _ _ (Placed l) (ltb-true x l) (λ _. tt)
+within_placed l (Write x v o) = cond_both _ _ _ (Placed l) (ltb-true x l) (λ _. tt)
+within_placed l (Update x o w) = cond_both _ _ _ (Placed l) (ltb-true x l) (λ _. tt)
 within_placed l (Fence o) = tt
 within_placed l (Print v) = tt
 within_placed l Ended = tt
@@ -58,20 +57,20 @@ reads_within l a x o e = go (within l a) (within_placed l a) e
         omega arith
 
     go : (b : Action) → Placed l b → reads b ≡ Some (x, o) → x < l
-    go Silent h s = absurd (none_some (x, o) s)
+    go Silent h s = cc
     go (Read y p) h s = same y p h s
-    go (Write y v p) h s = absurd (none_some (x, o) s)
+    go (Write y v p) h s = cc
     go (Update y p w) h s = same y p h s
-    go (Fence p) h s = absurd (none_some (x, o) s)
-    go (Print v) h s = absurd (none_some (x, o) s)
-    go Ended h s = absurd (none_some (x, o) s)
+    go (Fence p) h s = cc
+    go (Print v) h s = cc
+    go Ended h s = cc
 
 -- views that know only ends of these messages
 pub known_zero : (ms : List Message) → Known ms zero_view
 known_zero ms x = inl (at_zero x)
 
 -- an end that one view has, in another
-same_end : (ms : List Message) (v w : View) (x : ℕ) → Known ms v → at v x ≡ at w x → (at w x ≡ 0) ⊎ ((m : Message) × In m ms × (m.location ≡ x) × (m.to ≡ at w x))
+same_end : (ms : List Message) (v w : View) (x : ℕ) → Known ms v → at v x ≡ at w x → (at w x ≡ 0) ⊎ ((m : Message) × In m ms × (m.location ≡ x) × (m.span.to ≡ at w x))
 same_end ms v w x h e = elim (h x) [ inl z ↦ inl (sym e ∙ z) | inr m ↦ inr (m.0, m.1, m.2, m.3 ∙ e) ]
 
 pub known_join : (ms : List Message) (a b : View) → Known ms a → Known ms b → Known ms (join a b)
@@ -79,14 +78,14 @@ known_join ms a b h g x =
     let e = at_join a b x in
     elim (cases_lt (at a x) (at b x)) [ inl l ↦ same_end ms b (join a b) x g (omega arith) | inr l ↦ same_end ms a (join a b) x h (omega arith) ]
 
-pub known_single : (ms : List Message) (m : Message) → In m ms → Known ms (single m.location m.to)
+pub known_single : (ms : List Message) (m : Message) → In m ms → Known ms (single m.location m.span.to)
 known_single ms m i y =
     elim (cases_eq y m.location) [
       | inl e ↦ elim (cases_lt m.location 8) [
-        | inl lt ↦ inr (m, i, sym e, sym (ap (at (single m.location m.to)) e ∙ at_single m.location m.to lt))
-        | inr ge ↦ inl (ap (λ (v : View). at v y) (single_outside m.location m.to ge) ∙ at_zero y)
+        | inl lt ↦ inr (m, i, sym e, sym (ap (at (single m.location m.span.to)) e ∙ at_single m.location m.span.to lt))
+        | inr ge ↦ inl (ap (λ (v : View). at v y) (single_outside m.location m.span.to ge) ∙ at_zero y)
       ]
-      | inr ne ↦ inl (at_single_other m.location m.to y ne)
+      | inr ne ↦ inl (at_single_other m.location m.span.to y ne)
     ]
 
 -- what the rel of a location is after one was set, or all were
@@ -125,7 +124,7 @@ fit_more ms xs vs h = record {
 }
 
 read_fit : (ms : List Message) (o : ReadMode) (m : Message) (vs : Views) → In m ms → Known ms m.view → Fit ms vs
-    → Fit ms (read_views o m.location m.to m.view vs)
+    → Fit ms (read_views o m.location m.span.to m.view vs)
 read_fit ms o m vs i km h = record {
   known = record { cur = cur o; acq = known_join ms (join vs.acq s) m.view (known_join ms vs.acq s h.known.acq ks) km; rel = h.known.rel };
   ordered = record { rel = λ x y. let a = h.ordered.rel x y in let b = more o y in omega arith; acq = below o };
@@ -133,31 +132,31 @@ read_fit ms o m vs i km h = record {
 }
   where
     s : View
-    s = single m.location m.to
+    s = single m.location m.span.to
 
-    ks : Known ms (single m.location m.to)
+    ks : Known ms (single m.location m.span.to)
     ks = known_single ms m i
 
-    cur : (o : ReadMode) → Known ms (read_cur o m.location m.to m.view vs.cur)
-    cur RelaxedRead = known_join ms vs.cur (single m.location m.to) h.known.cur ks
-    cur Acquire = known_join ms (join vs.cur (single m.location m.to)) m.view (known_join ms vs.cur (single m.location m.to) h.known.cur ks) km
+    cur : (o : ReadMode) → Known ms (read_cur o m.location m.span.to m.view vs.cur)
+    cur RelaxedRead = known_join ms vs.cur (single m.location m.span.to) h.known.cur ks
+    cur Acquire = known_join ms (join vs.cur (single m.location m.span.to)) m.view (known_join ms vs.cur (single m.location m.span.to) h.known.cur ks) km
 
-    more : (o : ReadMode) (y : ℕ) → at vs.cur y ≤ at (read_cur o m.location m.to m.view vs.cur) y
-    more RelaxedRead y = let a = at_join vs.cur (single m.location m.to) y in omega arith
-    more Acquire y = let a = at_join vs.cur (single m.location m.to) y in let b = at_join (join vs.cur (single m.location m.to)) m.view y in omega arith
+    more : (o : ReadMode) (y : ℕ) → at vs.cur y ≤ at (read_cur o m.location m.span.to m.view vs.cur) y
+    more RelaxedRead y = let a = at_join vs.cur (single m.location m.span.to) y in omega arith
+    more Acquire y = let a = at_join vs.cur (single m.location m.span.to) y in let b = at_join (join vs.cur (single m.location m.span.to)) m.view y in omega arith
 
-    below : (o : ReadMode) → Below (read_cur o m.location m.to m.view vs.cur) (join (join vs.acq (single m.location m.to)) m.view)
+    below : (o : ReadMode) → Below (read_cur o m.location m.span.to m.view vs.cur) (join (join vs.acq (single m.location m.span.to)) m.view)
     below RelaxedRead y =
-        let a = at_join vs.cur (single m.location m.to) y in
-        let b = at_join vs.acq (single m.location m.to) y in
-        let c = at_join (join vs.acq (single m.location m.to)) m.view y in
+        let a = at_join vs.cur (single m.location m.span.to) y in
+        let b = at_join vs.acq (single m.location m.span.to) y in
+        let c = at_join (join vs.acq (single m.location m.span.to)) m.view y in
         let d = h.ordered.acq y in
         omega arith
     below Acquire y =
-        let a = at_join vs.cur (single m.location m.to) y in
-        let e = at_join (join vs.cur (single m.location m.to)) m.view y in
-        let b = at_join vs.acq (single m.location m.to) y in
-        let c = at_join (join vs.acq (single m.location m.to)) m.view y in
+        let a = at_join vs.cur (single m.location m.span.to) y in
+        let e = at_join (join vs.cur (single m.location m.span.to)) m.view y in
+        let b = at_join vs.acq (single m.location m.span.to) y in
+        let c = at_join (join vs.acq (single m.location m.span.to)) m.view y in
         let d = h.ordered.acq y in
         omega arith
 
@@ -200,7 +199,7 @@ all_fit ms v h = record {
 }
 
 -- what the view of a written message has at its own location
-pub written_end : (o : WriteMode) (x t : ℕ) (vs : Views) → x < 8 → length vs.rel ≡ 8 → Ordered vs → at vs.cur x ≤ t → at (rel_at (write_views o x t vs) x) x ≡ t
+written_end : (o : WriteMode) (x t : ℕ) (vs : Views) → x < 8 → length vs.rel ≡ 8 → Ordered vs → at vs.cur x ≤ t → at (rel_at (write_views o x t vs) x) x ≡ t
 written_end o x t vs lt e h le =
     ap (λ (v : View). at v x) (get_or-set_same vs.rel x (write_rel o (join (rel_at vs x) (single x t)) (join vs.cur (single x t))) zero_view (omega arith)) ∙ end o
   where
@@ -228,7 +227,7 @@ read_cur_end o x t m c h g = go o
     go RelaxedRead = let a = at_join c (single x t) x in omega (arith, s_end)
     go Acquire = let a = at_join c (single x t) x in let b = at_join (join c (single x t)) m x in omega (arith, s_end)
 
-pub formed_end : (m : Message) → WellFormed m → at m.view m.location ≤ m.to
+formed_end : (m : Message) → WellFormed m → at m.view m.location ≤ m.span.to
 formed_end m (inl e) = let a : at m.view m.location ≡ at zero_view m.location = ap (λ (q : Message). at q.view m.location) e in let z = at_zero m.location in omega arith
 formed_end m (inr h) = let a = h.1 in omega arith
 
@@ -239,7 +238,7 @@ pub record Sane (ms : List Message) : Type 0 where
   pub apart : Apart ms
   pub known : (m : Message) → In m ms → Known ms m.view
 
-pub sane_push : (ms : List Message) (m : Message) → Sane ms → m.location < 8 → m.from < m.to → at m.view m.location ≡ m.to → Free m.location m.from m.to ms → Known (ms ++ (m ∷ [])) m.view
+pub sane_push : (ms : List Message) (m : Message) → Sane ms → m.location < 8 → m.span.from < m.span.to → at m.view m.location ≡ m.span.to → Free m.location m.span ms → Known (ms ++ (m ∷ [])) m.view
     → Sane (ms ++ (m ∷ []))
 sane_push ms m h place span end free k = record {
   placed = in_push (λ n. n.location < 8) ms m h.placed place;
@@ -259,7 +258,7 @@ module _ (l : ℕ) (few : l ≤ 8) (closing : Option View) (k : Lone) (S : View)
   same : (k' : Lone) (S' : View) → Fit M k'.views → Known M S' → k'.owed ≡ k.owed → Holds k' S' M
   same k' S' f s e = record { fit = f; sc = s; sane = h.sane; owed = λ m i. h.owed m (subst (In m) e i) }
 
-  grown : (k' : Lone) (m : Message) → k'.owed ≡ k.owed → m.location < 8 → m.from < m.to → at m.view m.location ≡ m.to → Free m.location m.from m.to M
+  grown : (k' : Lone) (m : Message) → k'.owed ≡ k.owed → m.location < 8 → m.span.from < m.span.to → at m.view m.location ≡ m.span.to → Free m.location m.span M
       → Fit (M ++ (m ∷ [])) k'.views → Known (M ++ (m ∷ [])) m.view → Holds k' S (M ++ (m ∷ []))
   grown k' m e place span end free f v = record {
     fit = f;
@@ -286,29 +285,29 @@ module _ (l : ℕ) (few : l ≤ 8) (closing : Option View) (k : Lone) (S : View)
       same k' S' (all_fit M (join S k.views.acq) s) s refl
   step_holds {k' = k'} (print v e n) = same k' S h.fit h.sc refl
   step_holds {k' = k'} (read o m e i le τ) = same k' S (read_fit M o m k.views i (h.sane.known m i) h.fit) h.sc refl
-  step_holds {k' = k'} (write x v o f t e n less span free up) =
-      let vs = write_views o x t k.views in
-      let m = written x v f t vs in
-      let fit : Fit (M ++ (m ∷ [])) vs = write_fit (M ++ (m ∷ [])) o x t k.views (known_single (M ++ (m ∷ [])) m (in_last m M)) (fit_more M (m ∷ []) k.views h.fit) in
+  step_holds {k' = k'} (write x v o s e n less span free up) =
+      let vs = write_views o x s.to k.views in
+      let m = written x v s vs in
+      let fit : Fit (M ++ (m ∷ [])) vs = write_fit (M ++ (m ∷ [])) o x s.to k.views (known_single (M ++ (m ∷ [])) m (in_last m M)) (fit_more M (m ∷ []) k.views h.fit) in
       let lt : x < l = write_within l (k.does []).next x v o e in
-      grown k' m refl (omega arith) span (written_end o x t k.views (omega arith) h.fit.eight h.fit.ordered (omega arith)) free fit (fit.known.rel x)
+      grown k' m refl (omega arith) span (written_end o x s.to k.views (omega arith) h.fit.eight h.fit.ordered (omega arith)) free fit (fit.known.rel x)
   step_holds {k' = k'} (update o w m v t e n i le τ span free up) =
       let x = m.location in
-      let us = read_views o x m.to m.view k.views in
+      let us = read_views o x m.span.to m.view k.views in
       let vs = write_views w x t us in
-      let m' = updated_message x v m.to t m.view vs in
+      let m' = updated_message x v (onward m t) m.view vs in
       let after_read : Fit M us = read_fit M o m k.views i (h.sane.known m i) h.fit in
       let fit : Fit (M ++ (m' ∷ [])) vs = write_fit (M ++ (m' ∷ [])) w x t us (known_single (M ++ (m' ∷ [])) m' (in_last m' M)) (fit_more M (m' ∷ []) us after_read) in
       let lt : x < l = update_within l (k.does []).next x o w e in
-      let own : at m.view x ≤ m.to = formed_end m (h.sane.formed m i) in
-      let cur : at us.cur x ≤ m.to = read_cur_end o x m.to m.view k.views.cur le own in
+      let own : at m.view x ≤ m.span.to = formed_end m (h.sane.formed m i) in
+      let cur : at us.cur x ≤ m.span.to = read_cur_end o x m.span.to m.view k.views.cur le own in
       let rel : at (rel_at vs x) x ≡ t = written_end w x t us (omega arith) after_read.eight after_read.ordered (omega arith) in
       let end : at (join (rel_at vs x) m.view) x ≡ t = let a = at_join (rel_at vs x) m.view x in omega arith in
       grown k' m' refl (omega arith) span end free fit
       (known_join (M ++ (m' ∷ [])) (rel_at vs x) m.view (fit.known.rel x) (known_more M (m' ∷ []) m.view (h.sane.known m i)))
   step_holds {k' = k'} (keep m before later e o less) =
       record {
-        fit = write_fit M Relaxed m.location m.to k.views (known_single M m (h.owed m (subst (In m) (sym o) (in_right m before (m ∷ later) (inl refl))))) h.fit;
+        fit = write_fit M Relaxed m.location m.span.to k.views (known_single M m (h.owed m (subst (In m) (sym o) (in_right m before (m ∷ later) (inl refl))))) h.fit;
         sc = h.sc;
         sane = h.sane;
         owed = λ n i. h.owed n (subst (In n) (sym o) (elim (in_split n before later i) [ inl a ↦ in_left n before (m ∷ later) a | inr b ↦ in_right n before (m ∷ later) (inr b) ]));
@@ -324,7 +323,7 @@ step_grows {M = M} (both_fence e n) = ([], sym (append-nil M))
 step_grows {M = M} (sequential_fence e n) = ([], sym (append-nil M))
 step_grows {M = M} (print v e n) = ([], sym (append-nil M))
 step_grows {M = M} (read o m e i le τ) = ([], sym (append-nil M))
-step_grows {k = k} (write x v o f t e n less span free up) = (written x v f t (write_views o x t k.views) ∷ [], refl)
+step_grows {k = k} (write x v o s e n less span free up) = (written x v s (write_views o x s.to k.views) ∷ [], refl)
 step_grows {k = k} (update o w m v t e n i le τ span free up) =
-    (updated_message m.location v m.to t m.view (update_views o w m.location m.to t m.view k.views) ∷ [], refl)
+    (updated_message m.location v (onward m t) m.view (update_views o w m.location (onward m t) m.view k.views) ∷ [], refl)
 step_grows {M = M} (keep m before later e o less) = ([], sym (append-nil M))

@@ -1,8 +1,9 @@
 -- Steps that write above a closing line can be made later, in every memory that has the messages. Assumes nothing.
-use Rattle.std.proofs.Common.{◌≡◌, ℕ, zero, suc, ◌+◌, ◌<◌, ◌≤◌, max, cond, leb, List, [], ◌∷◌, ◌++◌, map, get_or, set, replicate, Some, None, sym, refl, ap, ◌∙◌, subst, inl, inr, append_assoc, append-nil, arith}
+use Rattle.std.proofs.Common.{◌≡◌, ℕ, zero, suc, ◌+◌, ◌-◌, ◌<◌, ◌≤◌, max, cond, leb, List, [], ◌∷◌, ◌++◌, map, get_or, set, replicate, Some, None, sym, refl, ap, ◌∙◌, subst, inl, inr, append_assoc, append-nil, arith}
 use lib.ListN.{get_or-map}
 use Rattle.std.proofs.lemmas.Bool.{le-leb, lt-leb, cond-true, cond-false, cases_lt}
 use Rattle.std.proofs.lemmas.List.{map_push, map-set}
+use Rattle.lines.specs.declared.span.Span.{Span}
 use Rattle.lines.specs.declared.trace.Line.{Line}
 use Rattle.lines.specs.declared.trace.Line.TheVariants.{Next as N, Read as R, Write as W, Update as U, Keep as H}
 use Rattle.languages.specs.declared.action.ReadMode.{ReadMode}
@@ -19,7 +20,7 @@ use Rattle.stores.proofs.StoreLaws.{greatest_end_bound}
 use Rattle.rules.specs.Models.{Views}
 use Rattle.rules.specs.Threads.{rel_at, read_cur, read_views, write_rel, write_views}
 use Rattle.rules.specs.Rules.{written, updated_message, update_views}
-use Rattle.rules.specs.Alone.{Lone, Within, went_on, OwesNothing, Alone, silent, acquire_fence, release_fence, both_fence, sequential_fence, print, read, write, update, keep, Steps, done, then, CanKeep}
+use Rattle.rules.specs.Alone.{Lone, Within, went_on, onward, OwesNothing, Alone, silent, acquire_fence, release_fence, both_fence, sequential_fence, print, read, write, update, keep, Steps, done, then, CanKeep}
 use Rattle.rules.specs.Laws.{Known, WellFormed}
 use Rattle.rules.proofs.Members.{in_left, in_right, in_split, in_push, in_map, in_map_back}
 use Rattle.rules.proofs.Preserved.{Holds, Sane}
@@ -36,31 +37,28 @@ later low by t = cond (leb t low) t (t + by)
 
 later_old : (low by t : ℕ) → t ≤ low → later low by t ≡ t
 unfolding later
-later_old low by t h = cond-true (leb t low) t (t + by) (le-leb t low h)
+later_old low by t h = cond-true _ _ _ (le-leb t low h)
 
 later_new : (low by t : ℕ) → low < t → later low by t ≡ t + by
 unfolding later
-later_new low by t h = cond-false (leb t low) t (t + by) (lt-leb t low h)
+later_new low by t h = cond-false _ _ _ (lt-leb t low h)
+
+-- of two times the later one comes at least as much later
+later_more : (low by s t : ℕ) → s ≤ t → later low by s + (t - s) ≤ later low by t
+later_more low by s t h =
+    elim (cases_lt low s) [
+      | inl a ↦ omega (arith, later_new low by s a, later_new low by t (omega arith))
+      | inr a ↦ elim (cases_lt low t) [
+        | inl b ↦ omega (arith, later_old low by s a, later_new low by t b)
+        | inr b ↦ omega (arith, later_old low by s a, later_old low by t b)
+      ]
+    ]
 
 later_le : (low by s t : ℕ) → s ≤ t → later low by s ≤ later low by t
-later_le low by s t h =
-    elim (cases_lt low s) [
-      | inl a ↦ omega (arith, later_new low by s a, later_new low by t (omega arith))
-      | inr a ↦ elim (cases_lt low t) [
-        | inl b ↦ omega (arith, later_old low by s a, later_new low by t b)
-        | inr b ↦ omega (arith, later_old low by s a, later_old low by t b)
-      ]
-    ]
+later_le low by s t h = let e = later_more low by s t h in omega arith
 
 later_lt : (low by s t : ℕ) → s < t → later low by s < later low by t
-later_lt low by s t h =
-    elim (cases_lt low s) [
-      | inl a ↦ omega (arith, later_new low by s a, later_new low by t (omega arith))
-      | inr a ↦ elim (cases_lt low t) [
-        | inl b ↦ omega (arith, later_old low by s a, later_new low by t b)
-        | inr b ↦ omega (arith, later_old low by s a, later_old low by t b)
-      ]
-    ]
+later_lt low by s t h = let e = later_more low by s t (omega arith) in omega arith
 
 later_max : (low by s t : ℕ) → later low by (max s t) ≡ max (later low by s) (later low by t)
 later_max low by s t =
@@ -84,8 +82,11 @@ module _ (low by : ℕ → ℕ) where
   abbrev shift_views : Views → Views
   shift_views vs = record { cur = shift_view vs.cur; acq = shift_view vs.acq; rel = map shift_view vs.rel }
 
+  abbrev shift_span : ℕ → Span → Span
+  shift_span x s = record { from = shift x s.from; to = shift x s.to }
+
   abbrev shift_message : Message → Message
-  shift_message m = record { location = m.location; from = shift m.location m.from; to = shift m.location m.to; value = m.value; view = shift_view m.view }
+  shift_message m = record { location = m.location; span = shift_span m.location m.span; value = m.value; view = shift_view m.view }
 
   abbrev shift_lone : Lone → Lone
   shift_lone k = record { does = k.does; views = shift_views k.views; owed = k.owed }
@@ -183,7 +184,7 @@ module _ (low by : ℕ → ℕ) where
       rels = map-set shift_view vs.rel x (write_rel o (join (rel_at vs x) (single x t)) (join vs.cur (single x t))) ∙ ap (set (map shift_view vs.rel) x) one
 
 module _ (l : ℕ) (cl : View) (base big : List Message) (has : Within base big)
-    (sane : Sane base) (under : (m : Message) → In m base → m.to ≤ at cl m.location) where
+    (sane : Sane base) (under : (m : Message) → In m base → m.span.to ≤ at cl m.location) where
   abbrev low : ℕ → ℕ
   low x = at cl x
 
@@ -205,9 +206,12 @@ module _ (l : ℕ) (cl : View) (base big : List Message) (has : Within base big)
   abbrev sh : ℕ → ℕ → ℕ
   sh x t = shift low by x t
 
+  abbrev ss : ℕ → Span → Span
+  ss x s = shift_span low by x s
+
   -- what the messages of the showing are
   abbrev New : List Message → Type 0
-  New new = (m : Message) → In m new → (at cl m.location < m.from) × (m.from < m.to)
+  New new = (m : Message) → In m new → (at cl m.location < m.span.from) × (m.span.from < m.span.to)
 
   abbrev Owes : Lone → Type 0
   Owes k = (m : Message) → In m k.owed → In m base
@@ -228,14 +232,14 @@ module _ (l : ℕ) (cl : View) (base big : List Message) (has : Within base big)
   old_message : (m : Message) → In m base → sm m ≡ m
   old_message m i =
       let u = under m i in
-      let f : m.from ≤ m.to = from_le (sane.formed m i) in
-      let ef : sh m.location m.from ≡ m.from = later_old (low m.location) (by m.location) m.from (omega arith) in
-      let et : sh m.location m.to ≡ m.to = later_old (low m.location) (by m.location) m.to u in
+      let f : m.span.from ≤ m.span.to = from_le (sane.formed m i) in
+      let ef : sh m.location m.span.from ≡ m.span.from = later_old (low m.location) (by m.location) m.span.from (omega arith) in
+      let et : sh m.location m.span.to ≡ m.span.to = later_old (low m.location) (by m.location) m.span.to u in
       let ev : sv m.view ≡ m.view = view_stays low by m.view (known_low m.view (sane.known m i)) in
-      λ j. record { location = m.location; from = ef j; to = et j; value = m.value; view = ev j }
+      λ j. record { location = m.location; span = record { from = ef j; to = et j }; value = m.value; view = ev j }
     where
-      from_le : WellFormed m → m.from ≤ m.to
-      from_le (inl e) = let a : m.from ≡ 0 = ap (λ (q : Message). q.from) e in omega arith
+      from_le : WellFormed m → m.span.from ≤ m.span.to
+      from_le (inl e) = let a : m.span.from ≡ 0 = ap (λ (q : Message). q.span.from) e in omega arith
       from_le (inr h) = let a = h.0 in omega arith
 
   in_wide : (ms new : List Message) (m : Message) → ms ≡ base ++ new → In m ms → In (sm m) (wide new)
@@ -245,15 +249,15 @@ module _ (l : ℕ) (cl : View) (base big : List Message) (has : Within base big)
         | inr a ↦ in_right (sm m) big (map sm new) (in_map sm m new a)
       ]
 
-  free_later : (ms new : List Message) (x f t : ℕ) → ms ≡ base ++ new → New new → at cl x < f → f < t → Free x f t ms → Free x (sh x f) (sh x t) (wide new)
-  free_later ms new x f t split fresh above span fr n h o =
+  free_later : (ms new : List Message) (x : ℕ) (s : Span) → ms ≡ base ++ new → New new → at cl x < s.from → s.from < s.to → Free x s ms → Free x (ss x s) (wide new)
+  free_later ms new x s split fresh above span fr n h o =
       elim (in_split n big (map sm new) h) [ inl a ↦ in_big a | inr b ↦ in_new (in_map_back sm n new b) ]
     where
-      ef : sh x f ≡ f + greatest_end x big
-      ef = later_new (at cl x) (greatest_end x big) f above
+      ef : sh x s.from ≡ s.from + greatest_end x big
+      ef = later_new (at cl x) (greatest_end x big) s.from above
 
-      et : sh x t ≡ t + greatest_end x big
-      et = later_new (at cl x) (greatest_end x big) t (omega arith)
+      et : sh x s.to ≡ s.to + greatest_end x big
+      et = later_new (at cl x) (greatest_end x big) s.to (omega arith)
 
       in_big : In n big → ⊥
       in_big a = let g = greatest_end_bound x big n a o.0 in let q = o.1 in omega (arith, ef)
@@ -264,12 +268,12 @@ module _ (l : ℕ) (cl : View) (base big : List Message) (has : Within base big)
           let loc : m.location ≡ x = sym (ap (λ (q : Message). q.location) r.2) ∙ o.0 in
           let fr-m = fresh m r.1 in
           let low-m : at cl m.location ≡ at cl x = ap (at cl) loc in
-          let to : n.to ≡ m.to + greatest_end x big =
-          ap (λ (q : Message). q.to) r.2 ∙ ap (λ (y : ℕ). sh y m.to) loc ∙ later_new (at cl x) (greatest_end x big) m.to (omega arith) in
-          let from : n.from ≡ m.from + greatest_end x big =
-          ap (λ (q : Message). q.from) r.2 ∙ ap (λ (y : ℕ). sh y m.from) loc ∙ later_new (at cl x) (greatest_end x big) m.from (omega arith) in
-          let a : f < m.to = let q = o.1 in omega (arith, ef) in
-          let b : m.from < t = let q = o.2 in omega (arith, et) in
+          let to : n.span.to ≡ m.span.to + greatest_end x big =
+          ap (λ (q : Message). q.span.to) r.2 ∙ ap (λ (y : ℕ). sh y m.span.to) loc ∙ later_new (at cl x) (greatest_end x big) m.span.to (omega arith) in
+          let from : n.span.from ≡ m.span.from + greatest_end x big =
+          ap (λ (q : Message). q.span.from) r.2 ∙ ap (λ (y : ℕ). sh y m.span.from) loc ∙ later_new (at cl x) (greatest_end x big) m.span.from (omega arith) in
+          let a : s.from < m.span.to = let q = o.1 in omega (arith, ef) in
+          let b : m.span.from < s.to = let q = o.2 in omega (arith, et) in
           fr m (subst (In m) (sym split) (in_right m base new r.1)) (loc, a, b)
 
   -- the step, made later, with every S
@@ -288,13 +292,13 @@ module _ (l : ℕ) (cl : View) (base big : List Message) (has : Within base big)
   grown new m = append_assoc big (map sm new) (sm m ∷ []) ∙ ap (λ (xs : List Message). big ++ xs) (sym (map_push sm new m))
 
   wrote : (k : Lone) (ms new : List Message) (ln : Line) (v : ℕ) (vs : Views) (m m' : Message) → ms ≡ base ++ new → New new → Owes k
-      → at cl m.location < m.from → m.from < m.to → m' ≡ sm m
+      → at cl m.location < m.span.from → m.span.from < m.span.to → m' ≡ sm m
       → ((S : View) → Alone l None (sl k) S (wide new) ln (went_on (sl k) v (svs vs)) S (wide new ++ (m' ∷ [])))
       → Made k new (went_on k v vs) (ms ++ (m ∷ []))
   wrote k ms new ln v vs m m' split fresh owes above span e s = (
     new ++ (m ∷ []),
     ap (λ (xs : List Message). xs ++ (m ∷ [])) split ∙ append_assoc base new (m ∷ []),
-    in_push (λ n. (at cl n.location < n.from) × (n.from < n.to)) new m fresh (above, span),
+    in_push (λ n. (at cl n.location < n.span.from) × (n.span.from < n.span.to)) new m fresh (above, span),
     owes,
     (
       ln,
@@ -317,49 +321,50 @@ module _ (l : ℕ) (cl : View) (base big : List Message) (has : Within base big)
     fresh,
     owes,
     (
-      R (sm m).to,
-      λ S. subst (λ (vs : Views). Alone l None (sl k) S (wide new) (R (sm m).to) (went_on (sl k) m.value vs) S (wide new)) (sym (shift_read low by o m.location m.to m.view k.views))
-          (read o (sm m) e (in_wide ms new m split i) (cur_le k m.location m.to le) τ),
+      R (sm m).span.to,
+      λ S. subst (λ (vs : Views). Alone l None (sl k) S (wide new) (R (sm m).span.to) (went_on (sl k) m.value vs) S (wide new)) (sym (shift_read low by o m.location m.span.to m.view k.views))
+          (read o (sm m) e (in_wide ms new m split i) (cur_le k m.location m.span.to le) τ),
     ),
   )
-  step_later {k} {ms = ms} new split fresh owes owing (write x v o f t e n less span free up) =
-      let vs = write_views o x t k.views in
-      let m = written x v f t vs in
-      let m' = written x v (sh x f) (sh x t) (svs vs) in
-      let same : m' ≡ sm m = λ j. record { location = x; from = sh x f; to = sh x t; value = v; view = shift_rel_at low by vs x j } in
-      wrote k ms new (W (sh x f) (sh x t)) 0 vs m m' split fresh owes up span same
-      (λ S. subst (λ (us : Views). Alone l None (sl k) S (wide new) (W (sh x f) (sh x t)) (went_on (sl k) 0 us) S (wide new ++ (written x v (sh x f) (sh x t) us ∷ [])))
-      (sym (shift_write low by o x t k.views))
-      (write x v o (sh x f) (sh x t) e n (cur_lt k x t less) (later_lt (low x) (by x) f t span) (free_later ms new x f t split fresh up span free) tt))
+  step_later {k} {ms = ms} new split fresh owes owing (write x v o s e n less span free up) =
+      let vs = write_views o x s.to k.views in
+      let m = written x v s vs in
+      let m' = written x v (ss x s) (svs vs) in
+      let same : m' ≡ sm m = λ j. record { location = x; span = ss x s; value = v; view = shift_rel_at low by vs x j } in
+      wrote k ms new (W (ss x s)) 0 vs m m' split fresh owes up span same
+      (λ S. subst (λ (us : Views). Alone l None (sl k) S (wide new) (W (ss x s)) (went_on (sl k) 0 us) S (wide new ++ (written x v (ss x s) us ∷ [])))
+      (sym (shift_write low by o x s.to k.views))
+      (write x v o (ss x s) e n (cur_lt k x s.to less) (later_lt (low x) (by x) s.from s.to span) (free_later ms new x s split fresh up span free) tt))
   step_later {k} {ms = ms} new split fresh owes owing (update o w m v t e n i le τ span free up) =
       let x = m.location in
-      let us = read_views o x m.to m.view k.views in
+      let s = onward m t in
+      let us = read_views o x m.span.to m.view k.views in
       let vs = write_views w x t us in
-      let m₁ = updated_message x v m.to t m.view vs in
-      let m' = updated_message x v (sh x m.to) (sh x t) (sv m.view) (svs vs) in
+      let m₁ = updated_message x v s m.view vs in
+      let m' = updated_message x v (ss x s) (sv m.view) (svs vs) in
       let view : join (rel_at (svs vs) x) (sv m.view) ≡ sv (join (rel_at vs x) m.view) =
       ap (λ (a : View). join a (sv m.view)) (shift_rel_at low by vs x) ∙ sym (shift_join low by (rel_at vs x) m.view) in
-      let same : m' ≡ sm m₁ = λ j. record { location = x; from = sh x m.to; to = sh x t; value = v; view = view j } in
-      let changed : update_views o w x (sh x m.to) (sh x t) (sv m.view) (svs k.views) ≡ svs vs =
-      ap (write_views w x (sh x t)) (sym (shift_read low by o x m.to m.view k.views)) ∙ sym (shift_write low by w x t us) in
-      wrote k ms new (U (sh x m.to) (sh x t)) m.value vs m₁ m' split fresh owes up span same
-      (λ S. subst (λ (ws : Views). Alone l None (sl k) S (wide new) (U (sh x m.to) (sh x t)) (went_on (sl k) m.value ws) S (wide new ++ (updated_message x v (sh x m.to) (sh x t) (sv m.view) ws ∷ [])))
+      let same : m' ≡ sm m₁ = λ j. record { location = x; span = ss x s; value = v; view = view j } in
+      let changed : update_views o w x (ss x s) (sv m.view) (svs k.views) ≡ svs vs =
+      ap (write_views w x (sh x t)) (sym (shift_read low by o x m.span.to m.view k.views)) ∙ sym (shift_write low by w x t us) in
+      wrote k ms new (U (ss x s)) m.value vs m₁ m' split fresh owes up span same
+      (λ S. subst (λ (ws : Views). Alone l None (sl k) S (wide new) (U (ss x s)) (went_on (sl k) m.value ws) S (wide new ++ (updated_message x v (ss x s) (sv m.view) ws ∷ [])))
       changed
-      (update o w (sm m) v (sh x t) e n (in_wide ms new m split i) (cur_le k x m.to le) τ (later_lt (low x) (by x) m.to t span) (free_later ms new x m.to t split fresh up span free) tt))
+      (update o w (sm m) v (sh x t) e n (in_wide ms new m split i) (cur_le k x m.span.to le) τ (later_lt (low x) (by x) m.span.to t span) (free_later ms new x s split fresh up span free) tt))
   step_later {k} new split fresh owes owing (keep m before later e o less) =
       let x = m.location in
       let i : In m base = owes m (subst (In m) (sym o) (in_right m before (m ∷ later) (inl refl))) in
-      let old : sh x m.to ≡ m.to = later_old (low x) (by x) m.to (under m i) in
-      let views : write_views Relaxed x m.to (svs k.views) ≡ svs (write_views Relaxed x m.to k.views) =
-      ap (λ (u : ℕ). write_views Relaxed x u (svs k.views)) (sym old) ∙ sym (shift_write low by Relaxed x m.to k.views) in (
+      let old : sh x m.span.to ≡ m.span.to = later_old (low x) (by x) m.span.to (under m i) in
+      let views : write_views Relaxed x m.span.to (svs k.views) ≡ svs (write_views Relaxed x m.span.to k.views) =
+      ap (λ (u : ℕ). write_views Relaxed x u (svs k.views)) (sym old) ∙ sym (shift_write low by Relaxed x m.span.to k.views) in (
         new,
         split,
         fresh,
         (λ n h. owes n (subst (In n) (sym o) (elim (in_split n before later h) [ inl a ↦ in_left n before (m ∷ later) a | inr b ↦ in_right n before (m ∷ later) (inr b) ]))),
         (
-          H m.to,
-          λ S. subst (λ (vs : Views). Alone l None (sl k) S (wide new) (H m.to) (record { does = after k.does 0; views = vs; owed = before ++ later }) S (wide new)) views
-              (keep m before later e o (subst (λ (u : ℕ). at (sv k.views.cur) x < u) old (cur_lt k x m.to less))),
+          H m.span.to,
+          λ S. subst (λ (vs : Views). Alone l None (sl k) S (wide new) (H m.span.to) (record { does = after k.does 0; views = vs; owed = before ++ later }) S (wide new)) views
+              (keep m before later e o (subst (λ (u : ℕ). at (sv k.views.cur) x < u) old (cur_lt k x m.span.to less))),
         ),
       )
 

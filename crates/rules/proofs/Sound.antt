@@ -1,7 +1,9 @@
 -- The invariant of a run, which each line keeps. Assumes nothing.
-use Rattle.std.proofs.Common.{◌≡◌, ℕ, zero, suc, ◌<◌, ◌≤◌, true, false, ltb, List, [], ◌∷◌, ◌++◌, length, get_or, take, set, Some, None, Option, sym, refl, ap, ◌∙◌, subst, inl, inr, arith, length-append, length-set}
-use Rattle.std.proofs.lemmas.Bool.{cases_eq, cond_both, ltb-true}
+use Rattle.std.proofs.Common.{◌≡◌, ℕ, ◌<◌, ◌≤◌, true, false, ltb, List, [], ◌∷◌, ◌++◌, length, get_or, take, set, Some, None, Option, sym, refl, ap, ◌∙◌, subst, inl, inr, arith, length-append, length-set}
+use Rattle.std.proofs.lemmas.Bool.{cases_eq, ltb-true}
+use Rattle.std.proofs.lemmas.List.FromFn.{get_or-map-range_with_len}
 use Rattle.std.proofs.lemmas.List.{get_or-set_same, get_or-set_other, set-set, set-get_or, take_all, take-append-le, length_push}
+use Rattle.lines.specs.declared.span.Span.{Span}
 use Rattle.lines.specs.declared.trace.Line.{Line}
 use Rattle.lines.specs.declared.trace.Line.TheVariants.{Turn as T, Next as N, Read as R, Write as W, Update as U, Promise as G, Keep as H, Show as X, EndTurn as E}
 use Rattle.stores.specs.declared.view.View.{View}
@@ -13,16 +15,16 @@ use Rattle.stores.specs.StoreLaws.{Free}
 use Rattle.stores.proofs.StoreLaws.{greatest_end_bound}
 use Rattle.stores.proofs.ViewLaws.{at_join, at_single}
 use Rattle.rules.specs.declared.fault.StepFault.{StepFault}
-use Rattle.rules.specs.declared.fault.StepFault.TheVariants.{Range, Moment, TooNew, Store, StillOwing}
+use Rattle.rules.specs.declared.fault.StepFault.TheVariants.{Moment, Store, StillOwing}
 use Rattle.rules.specs.Models.{Thread, Part, Saved, Phase, between, turn, showing, Run, nobody, thread_at, part_at, with_part, in_phase}
 use Rattle.rules.specs.Threads.{rel_at, none_owed}
-use Rattle.rules.specs.Rules.{Tried, went, refused, unless, span_refusal, adds, promised_message, owing, promise_result, act_result, lifted, act_in, promise_in, begin_in, closing_line, saved, show_in, put_back, end_in, line_result}
+use Rattle.rules.specs.Rules.{Tried, went, refused, unless, span_refusal, with_message, adds, promised_message, owing, promise_result, act_result, lifted, act_in, promise_in, begin_in, closing_line, saved, show_in, put_back, end_in, line_result}
 use Rattle.rules.specs.Alone.{Lone, lone, Within, OwesNothing, done, CanKeep}
 use Rattle.rules.specs.Steps.{lone_at, printed, Marks}
 use Rattle.rules.specs.Laws.{Known}
 use Rattle.rules.proofs.Members.{in_left, in_last, known_more}
 use Rattle.rules.proofs.Marked.{Bare, marked_in, marked_more, bare_more, marks_promise, nothing, something}
-use Rattle.rules.proofs.Accepts.{When, Acted, act_step, span_sound}
+use Rattle.rules.proofs.Accepts.{When, Acted, act_step, span_sound, when_passed, when_missed}
 use Rattle.rules.proofs.Preserved.{Fit, fit_more, Sane, sane_push, Holds, step_holds, step_grows, known_single, known_join}
 use Rattle.rules.proofs.Shifted.{Shown, start, more, shown}
 
@@ -40,7 +42,7 @@ pub record Good (r : Run) : Type 0 where
 pub holds_at : (r : Run) (j : ℕ) → Good r → Holds (lone_at r j) r.sc r.memory
 holds_at r j g = record { fit = g.fit j; sc = g.sc; sane = g.sane; owed = λ m i. marked_in (thread_at r j).owed r.memory m i }
 
-pub good_phase : (r : Run) (ph : Phase) → Good r → Good (in_phase r ph)
+good_phase : (r : Run) (ph : Phase) → Good r → Good (in_phase r ph)
 good_phase r ph g = record {
   few = g.few;
   small = g.small;
@@ -72,7 +74,7 @@ pub record Changed (r : Run) (i : ℕ) (p : Part) : Type 0 where
   pub said : List (ℕ × ℕ)
   pub log : p.log ≡ r.log ++ said
 
-pub good_part : (r : Run) (i : ℕ) (p : Part) → i < length r.threads → Good r → Changed r i p → Good (with_part r i p)
+good_part : (r : Run) (i : ℕ) (p : Part) → i < length r.threads → Good r → Changed r i p → Good (with_part r i p)
 good_part r i p lt g c = record {
   few = g.few;
   small = let a = g.small in let b = c.capacity in omega arith;
@@ -163,7 +165,7 @@ acted_changed r i closing line p g a =
 set_length : (r : Run) (i : ℕ) (k : Thread) → i < length r.threads → i < length (set r.threads i k)
 set_length r i k lt = let e = length-set r.threads i k in omega arith
 
-pub turn_part : (r : Run) (i : ℕ) (p : Part) → SoundAt r (turn i) → Changed r i p → SoundAt (with_part r i p) (turn i)
+turn_part : (r : Run) (i : ℕ) (p : Part) → SoundAt r (turn i) → Changed r i p → SoundAt (with_part r i p) (turn i)
 turn_part r i p h c = (set_length r i p.thread h.0, good_part r i p h.0 h.1 c, calm_part r i p h.0 h.1 c h.2)
 
 show_part : (r : Run) (i : ℕ) (s : Saved) (cl : View) (line : Line) (p : Part) → Shows r i s cl → none_owed (thread_at r i).owed ≡ false
@@ -187,22 +189,25 @@ show_part r i s cl line p h owing a =
           (more h.steps (something (thread_at r i).owed r.memory (h.good.marks i).1 owing) a.step));
     }
 
-pub when_lifted : (r : Run) (i : ℕ) (F : Part → Type 0) (B : Run → Type 0) (t : Tried Part) → When F t → ((p : Part) → F p → B (with_part r i p)) → When B (lifted r i t)
+when_lifted : (r : Run) (i : ℕ) (F : Part → Type 0) (B : Run → Type 0) (t : Tried Part) → When F t → ((p : Part) → F p → B (with_part r i p)) → When B (lifted r i t)
 when_lifted r i F B (went p) h go = go p h
 when_lifted r i F B (refused e) h go = tt
 
 pub acting : (r : Run) (i : ℕ) (closing : Option View) (line : Line) → Good r → When (λ p. Acted r.locations i closing line (part_at r i) p) (act_result r.locations i closing line (part_at r i))
 acting r i closing line g = act_step r.locations i closing (part_at r i) (g.marks i) g.room g.prints line
 
+pub when_acted : (r : Run) (i : ℕ) (closing : Option View) (line : Line) (B : Run → Type 0) → Good r
+    → ((p : Part) → Acted r.locations i closing line (part_at r i) p → B (with_part r i p)) → When B (lifted r i (act_result r.locations i closing line (part_at r i)))
+when_acted r i closing line B g = when_lifted r i (Acted r.locations i closing line (part_at r i)) B _ (acting r i closing line g)
+
 act_sound : (r : Run) (line : Line) (ph : Phase) → r.phase ≡ ph → SoundAt r ph → When Sound (act_in r line ph)
 act_sound r line between e h = tt
 act_sound r line (turn i) e h =
-    when_lifted r i (λ p. Acted r.locations i None line (part_at r i) p) Sound (act_result r.locations i None line (part_at r i)) (acting r i None line h.1)
+    when_acted r i None line Sound h.1
     (λ p a. subst (SoundAt (with_part r i p)) (sym e) (turn_part r i p h (acted_changed r i None line p h.1 a)))
 act_sound r line (showing i s cl) e h =
-    cond_both (none_owed (thread_at r i).owed) (refused Moment) (lifted r i (act_result r.locations i (Some cl) line (part_at r i))) (When Sound)
-    (λ _. tt)
-    (λ owing. when_lifted r i (λ p. Acted r.locations i (Some cl) line (part_at r i) p) Sound (act_result r.locations i (Some cl) line (part_at r i)) (acting r i (Some cl) line h.good)
+    when_missed Sound _ _ _
+    (λ owing. when_acted r i (Some cl) line Sound h.good
     (λ p a. subst (SoundAt (with_part r i p)) (sym e) (show_part r i s cl line p h owing a)))
 
 begin_sound : (r : Run) (i : ℕ) (ph : Phase) → i < length r.threads → SoundAt r ph → When Sound (begin_in r i ph)
@@ -211,57 +216,45 @@ begin_sound r i (turn j) lt h = tt
 begin_sound r i (showing j s cl) lt h = tt
 
 -- a promise
-pub record Promised (r : Run) (i x v f t : ℕ) (p : Part) : Type 0 where
-  pub is : p ≡ record {
-    thread = owing (thread_at r i) (length r.memory);
-    memory = r.memory ++ (promised_message (thread_at r i).views x v f t ∷ []);
-    capacity = r.capacity;
-    sc = r.sc;
-    log = r.log;
-  }
-  pub new : at (thread_at r i).views.cur x < t
-  pub span : f < t
-  pub free : Free x f t r.memory
+pub record Promised (r : Run) (i x v : ℕ) (s : Span) (p : Part) : Type 0 where
+  pub is : p ≡ with_message (part_at r i) (owing (thread_at r i) (length r.memory)) (promised_message (thread_at r i).views x v s)
+  pub new : at (thread_at r i).views.cur x < s.to
+  pub span : s.from < s.to
+  pub free : Free x s r.memory
   pub room : length r.memory < r.capacity
 
-pub promising : (r : Run) (i x v f t : ℕ) → When (Promised r i x v f t) (promise_result x v f t (part_at r i))
-promising r i x v f t =
+promising : (r : Run) (i x v : ℕ) (s : Span) → When (Promised r i x v s) (promise_result x v s (part_at r i))
+promising r i x v s =
     let c = (thread_at r i).views.cur in
-    let m = promised_message (thread_at r i).views x v f t in
+    let m = promised_message (thread_at r i).views x v s in
     let k = owing (thread_at r i) (length r.memory) in
-    cond_both (ltb (at c x) t) (unless (span_refusal None x f t r.memory) (adds (part_at r i) k m)) (refused TooNew) (When (Promised r i x v f t))
-    (λ less. spans (ltb-true (at c x) t less) (span_refusal None x f t r.memory) refl)
-    (λ _. tt)
+    when_passed (Promised r i x v s) _ _ _
+    (λ less. spans (ltb-true (at c x) s.to less) (span_refusal None x s r.memory) refl)
   where
-    spans : at (thread_at r i).views.cur x < t → (o : Option StepFault) → span_refusal None x f t r.memory ≡ o
-        → When (Promised r i x v f t) (unless o (adds (part_at r i) (owing (thread_at r i) (length r.memory)) (promised_message (thread_at r i).views x v f t)))
+    spans : at (thread_at r i).views.cur x < s.to → (o : Option StepFault) → span_refusal None x s r.memory ≡ o
+        → When (Promised r i x v s) (unless o (adds (part_at r i) (owing (thread_at r i) (length r.memory)) (promised_message (thread_at r i).views x v s)))
     spans less None e =
-        let ok = span_sound None x f t r.memory e in
-        cond_both (ltb (length r.memory) r.capacity)
-        (went (record {
-          thread = owing (thread_at r i) (length r.memory);
-          memory = r.memory ++ (promised_message (thread_at r i).views x v f t ∷ []);
-          capacity = r.capacity;
-          sc = r.sc;
-          log = r.log;
-        }))
-        (refused (Store Full)) (When (Promised r i x v f t))
+        let ok = span_sound None x s r.memory e in
+        when_passed (Promised r i x v s) (ltb (length r.memory) r.capacity) (went (with_message (part_at r i) (owing (thread_at r i) (length r.memory)) (promised_message (thread_at r i).views x v s))) (Store Full)
         (λ room. record { is = refl; new = less; span = ok.0; free = ok.1; room = ltb-true (length r.memory) r.capacity room })
-        (λ _. tt)
     spans less (Some e) _ = tt
 
-pub promised_changed : (r : Run) (i x v f t : ℕ) (p : Part) → x < r.locations → Good r → Promised r i x v f t p → Changed r i p
-promised_changed r i x v f t p here g a =
+pub when_promised : (r : Run) (i x v : ℕ) (s : Span) (B : Run → Type 0) → ((p : Part) → Promised r i x v s p → B (with_part r i p))
+    → When B (lifted r i (promise_result x v s (part_at r i)))
+when_promised r i x v s B = when_lifted r i (Promised r i x v s) B _ (promising r i x v s)
+
+pub promised_changed : (r : Run) (i x v : ℕ) (s : Span) (p : Part) → x < r.locations → Good r → Promised r i x v s p → Changed r i p
+promised_changed r i x v s p here g a =
     let k = thread_at r i in
     let ms = r.memory in
-    let m = promised_message k.views x v f t in
+    let m = promised_message k.views x v s in
     let few = g.few in
     let rel = (g.fit i).ordered.rel x x in
     let new = a.new in
-    let own : at (join (rel_at k.views x) (single x t)) x ≡ t =
-    let b = at_join (rel_at k.views x) (single x t) x in let d = at_single x t (omega arith) in omega arith in
-    let known : Known (ms ++ (m ∷ [])) (join (rel_at k.views x) (single x t)) =
-    known_join (ms ++ (m ∷ [])) (rel_at k.views x) (single x t) (known_more ms (m ∷ []) (rel_at k.views x) ((g.fit i).known.rel x)) (known_single (ms ++ (m ∷ [])) m (in_last m ms)) in
+    let own : at (join (rel_at k.views x) (single x s.to)) x ≡ s.to =
+    let b = at_join (rel_at k.views x) (single x s.to) x in let d = at_single x s.to (omega arith) in omega arith in
+    let known : Known (ms ++ (m ∷ [])) (join (rel_at k.views x) (single x s.to)) =
+    known_join (ms ++ (m ∷ [])) (rel_at k.views x) (single x s.to) (known_more ms (m ∷ []) (rel_at k.views x) ((g.fit i).known.rel x)) (known_single (ms ++ (m ∷ [])) m (in_last m ms)) in
     let marks : Marks (set k.owed (length ms) true) (ms ++ (m ∷ [])) = marks_promise k.owed ms m (g.marks i) in
     subst (Changed r i) (sym a.is)
     (record {
@@ -281,12 +274,12 @@ promised_changed r i x v f t p here g a =
       log = sym (mathlib.Core.List.append-nil r.log);
     })
 
-promise_sound : (r : Run) (x v f t : ℕ) (ph : Phase) → x < r.locations → r.phase ≡ ph → SoundAt r ph → When Sound (promise_in r x v f t ph)
-promise_sound r x v f t between here e h = tt
-promise_sound r x v f t (turn i) here e h =
-    when_lifted r i (Promised r i x v f t) Sound (promise_result x v f t (part_at r i)) (promising r i x v f t)
-    (λ p a. subst (SoundAt (with_part r i p)) (sym e) (turn_part r i p h (promised_changed r i x v f t p here h.1 a)))
-promise_sound r x v f t (showing i s cl) here e h = tt
+promise_sound : (r : Run) (x v : ℕ) (s : Span) (ph : Phase) → x < r.locations → r.phase ≡ ph → SoundAt r ph → When Sound (promise_in r x v s ph)
+promise_sound r x v s between here e h = tt
+promise_sound r x v s (turn i) here e h =
+    when_promised r i x v s Sound
+    (λ p a. subst (SoundAt (with_part r i p)) (sym e) (turn_part r i p h (promised_changed r i x v s p here h.1 a)))
+promise_sound r x v s (showing i sv cl) here e h = tt
 
 -- X: what would be put back is the run as it is
 pub shown_back : (r : Run) (i : ℕ) (ph : Phase) → put_back (in_phase r ph) i (saved r i) ≡ in_phase r (turn i)
@@ -303,7 +296,7 @@ show_sound r (turn i) h =
     let ph = showing i (saved r i) cl in
     let same = shown_back r i ph in
     let base : take (length r.memory) r.memory ≡ r.memory = ap (λ (q : Run). q.memory) same in
-    cond_both (none_owed (thread_at r i).owed) (refused Moment) (went (in_phase r ph)) (When Sound) (λ _. tt)
+    when_missed Sound (none_owed (thread_at r i).owed) (went (in_phase r ph)) Moment
     (λ _. record {
       mine = h.0;
       good = good_phase r ph h.1;
@@ -316,16 +309,8 @@ show_sound r (turn i) h =
     })
 show_sound r (showing i s cl) h = tt
 
-pub at_closing : (ms : List Message) (x : ℕ) → x < 8 → at (closing_line ms) x ≡ greatest_end x ms
-at_closing ms zero h = refl
-at_closing ms (suc zero) h = refl
-at_closing ms (suc (suc zero)) h = refl
-at_closing ms (suc (suc (suc zero))) h = refl
-at_closing ms (suc (suc (suc (suc zero)))) h = refl
-at_closing ms (suc (suc (suc (suc (suc zero))))) h = refl
-at_closing ms (suc (suc (suc (suc (suc (suc zero)))))) h = refl
-at_closing ms (suc (suc (suc (suc (suc (suc (suc zero))))))) h = refl
-at_closing ms (suc (suc (suc (suc (suc (suc (suc (suc x)))))))) h = absurd (omega arith)
+at_closing : (ms : List Message) (x : ℕ) → x < 8 → at (closing_line ms) x ≡ greatest_end x ms
+at_closing ms x h = get_or-map-range_with_len (λ y. greatest_end y ms) 0 8 x x 0 h (omega arith)
 
 -- nobody is busy any more
 calm_all : (r : Run) (i : ℕ) → Calm (λ j. j ≡ i) r → Safe r.locations (lone_at r i) r.memory → Calm (λ j. ⊥) r
@@ -334,14 +319,14 @@ calm_all r i c s j _ = elim (cases_eq j i) [ inl e ↦ subst (λ (n : ℕ). Safe
 end_sound : (r : Run) (ph : Phase) → SoundAt r ph → When Sound (end_in r ph)
 end_sound r between h = tt
 end_sound r (turn i) h =
-    cond_both (none_owed (thread_at r i).owed) (went (in_phase r between)) (refused StillOwing) (When Sound)
-    (λ o. (good_phase r between h.1, calm_all r i h.2 (idle r.locations (lone_at r i) r.memory (nothing (thread_at r i).owed r.memory o)))) (λ _. tt)
+    when_passed Sound (none_owed (thread_at r i).owed) (went (in_phase r between)) StillOwing
+    (λ o. (good_phase r between h.1, calm_all r i h.2 (idle r.locations (lone_at r i) r.memory (nothing (thread_at r i).owed r.memory o))))
 end_sound r (showing i s cl) h =
     let q : Run = put_back r i s in
     let base = take s.messages r.memory in
     let is : thread_at q i ≡ s.thread = get_or-set_same r.threads i s.thread nobody h.mine in
     let sane : Sane base = h.back.sane in
-    cond_both (none_owed (thread_at r i).owed) (went (in_phase q between)) (refused StillOwing) (When Sound)
+    when_passed Sound (none_owed (thread_at r i).owed) (went (in_phase q between)) StillOwing
     (λ o. (
       good_phase q between h.back,
       calm_all q i h.calm
@@ -354,19 +339,18 @@ end_sound r (showing i s cl) h =
           (subst (λ (k : Thread). Shown r.locations cl (lone k base) s.sc base (lone_at r i) r.sc r.memory) (sym is) h.steps)
           (nothing (thread_at r i).owed r.memory o)),
     ))
-    (λ _. tt)
 
 pub line_sound : (line : Line) (r : Run) → Sound r → When Sound (line_result line r)
 line_sound (T i) r h =
-    cond_both (ltb i (length r.threads)) (begin_in r i r.phase) (refused Range) (When Sound)
-    (λ lt. begin_sound r i r.phase (ltb-true i (length r.threads) lt) h) (λ _. tt)
+    when_passed Sound _ _ _
+    (λ lt. begin_sound r i r.phase (ltb-true i (length r.threads) lt) h)
 line_sound N r h = act_sound r N r.phase refl h
 line_sound (R t) r h = act_sound r (R t) r.phase refl h
-line_sound (W f t) r h = act_sound r (W f t) r.phase refl h
-line_sound (U f t) r h = act_sound r (U f t) r.phase refl h
-line_sound (G x v f t) r h =
-    cond_both (ltb x r.locations) (promise_in r x v f t r.phase) (refused Range) (When Sound)
-    (λ lt. promise_sound r x v f t r.phase (ltb-true x r.locations lt) refl h) (λ _. tt)
+line_sound (W s) r h = act_sound r (W s) r.phase refl h
+line_sound (U s) r h = act_sound r (U s) r.phase refl h
+line_sound (G x v s) r h =
+    when_passed Sound _ _ _
+    (λ lt. promise_sound r x v s r.phase (ltb-true x r.locations lt) refl h)
 line_sound (H t) r h = act_sound r (H t) r.phase refl h
 line_sound X r h = show_sound r r.phase h
 line_sound E r h = end_sound r r.phase h

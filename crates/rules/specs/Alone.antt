@@ -1,5 +1,6 @@
 -- How a thread steps by itself, as a relation over any numbers.
 use Rattle.std.specs.Prelude.{◌≡◌, ℕ, ◌<◌, ◌≤◌, List, [], ◌∷◌, ◌++◌, Some, None, Option, ◌≢◌}
+use Rattle.lines.specs.declared.span.Span.{Span}
 use Rattle.lines.specs.declared.trace.Line.{Line}
 use Rattle.lines.specs.declared.trace.Line.TheVariants.{Next as N, Read as R, Write as W, Update as U, Keep as H}
 use Rattle.languages.specs.declared.action.Action.TheVariants.{Silent, Write, Update, Fence, Print}
@@ -45,6 +46,10 @@ abbrev pub Above : Option View → ℕ → ℕ → Type 0
 Above None x f = Unit {0}
 Above (Some line) x f = at line x < f
 
+-- the span from the end of m up to t
+abbrev pub onward : Message → ℕ → Span
+onward m t = record { from = m.span.to; to = t }
+
 -- one step of the thread k, on l locations, with the view S and the memory M: by which line, and thread, S and memory after it
 pub data Alone (l : ℕ) (closing : Option View) (k : Lone) (S : View) (M : List Message) : Line → Lone → View → List Message → Type 0 where
   silent : next_of l k.does ≡ Silent → Alone l closing k S M N (went_on k 0 k.views) S M
@@ -60,30 +65,30 @@ pub data Alone (l : ℕ) (closing : Option View) (k : Lone) (S : View) (M : List
   -- a read, or an update that only reads
   read : (o : ReadMode) (m : Message)
       → reads (next_of l k.does) ≡ Some (m.location, o)
-      → In m M → at k.views.cur m.location ≤ m.to
+      → In m M → at k.views.cur m.location ≤ m.span.to
       → (k.does []).takes m.value ≡ OnlyRead
-      → Alone l closing k S M (R m.to) (went_on k m.value (read_views o m.location m.to m.view k.views)) S M
-  write : (x v : ℕ) (o : WriteMode) (f t : ℕ)
+      → Alone l closing k S M (R m.span.to) (went_on k m.value (read_views o m.location m.span.to m.view k.views)) S M
+  write : (x v : ℕ) (o : WriteMode) (s : Span)
       → next_of l k.does ≡ Write x v o
       → (o ≡ Release → OwesNothingAt x k)
-      → at k.views.cur x < t → f < t → Free x f t M → Above closing x f
-      → Alone l closing k S M (W f t) (went_on k 0 (write_views o x t k.views)) S
-      (M ++ (written x v f t (write_views o x t k.views) ∷ []))
-  -- reads m, and writes from its end on
+      → at k.views.cur x < s.to → s.from < s.to → Free x s M → Above closing x s.from
+      → Alone l closing k S M (W s) (went_on k 0 (write_views o x s.to k.views)) S
+      (M ++ (written x v s (write_views o x s.to k.views) ∷ []))
+  -- reads m, and writes from its end up to t
   update : (o : ReadMode) (w : WriteMode) (m : Message) (v t : ℕ)
       → next_of l k.does ≡ Update m.location o w
       → (w ≡ Release → OwesNothingAt m.location k)
-      → In m M → at k.views.cur m.location ≤ m.to
+      → In m M → at k.views.cur m.location ≤ m.span.to
       → (k.does []).takes m.value ≡ Replaced v
-      → m.to < t → Free m.location m.to t M → Above closing m.location m.to
-      → Alone l closing k S M (U m.to t) (went_on k m.value (update_views o w m.location m.to t m.view k.views)) S
-      (M ++ (updated_message m.location v m.to t m.view (update_views o w m.location m.to t m.view k.views) ∷ []))
+      → m.span.to < t → Free m.location (onward m t) M → Above closing m.location m.span.to
+      → Alone l closing k S M (U (onward m t)) (went_on k m.value (update_views o w m.location (onward m t) m.view k.views)) S
+      (M ++ (updated_message m.location v (onward m t) m.view (update_views o w m.location (onward m t) m.view k.views) ∷ []))
   -- a relaxed write of a promised message
   keep : (m : Message) (before later : List Message)
       → next_of l k.does ≡ Write m.location m.value Relaxed
       → k.owed ≡ before ++ (m ∷ later)
-      → at k.views.cur m.location < m.to
-      → Alone l closing k S M (H m.to) (kept k m.location m.to (before ++ later)) S M
+      → at k.views.cur m.location < m.span.to
+      → Alone l closing k S M (H m.span.to) (kept k m.location m.span.to (before ++ later)) S M
 
 -- steps, one after another
 pub data Steps (l : ℕ) (closing : Option View) (k : Lone) (S : View) (M : List Message) : Lone → View → List Message → Type 0 where

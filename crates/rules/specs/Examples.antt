@@ -1,5 +1,6 @@
 -- Small runs of register programs, played by the rules.
 use Rattle.std.specs.Prelude.{◌≡◌, ℕ, ◌+◌, List, [], ◌∷◌, map}
+use Rattle.lines.specs.declared.span.Span.{Span}
 use Rattle.lines.specs.declared.trace.Line.{Line}
 use Rattle.lines.specs.declared.trace.Line.TheVariants.{Turn as T, Next as N, Read as R, Write as W, Update as U, Promise as G, Keep as H, Show as X, EndTurn as E}
 use Rattle.languages.specs.declared.action.ReadMode.TheVariants.{Relaxed as RelaxedRead, Acquire}
@@ -34,7 +35,7 @@ two p q lines = judge_on 0 (made (register_start p ∷ register_start q ∷ []) 
 
 -- the messages without their views, as location, span and value, and what each thread has seen of the two locations
 abbrev pub shape : Message → List ℕ
-shape m = m.location ∷ m.from ∷ m.to ∷ m.value ∷ []
+shape m = m.location ∷ m.span.from ∷ m.span.to ∷ m.value ∷ []
 
 abbrev pub seen : Thread → List ℕ
 seen k = at k.views.cur 0 ∷ at k.views.cur 1 ∷ []
@@ -47,10 +48,14 @@ abbrev pub ending : Outcome → Ending
 ending (accepted r) = ends_with (map shape r.memory) (map seen r.threads)
 ending (stopped n e) = refused_at n e
 
+-- the span (f, t]
+abbrev pub span_of : ℕ → ℕ → Span
+span_of f t = record { from = f; to = t }
+
 -- load buffering: a promised write is read before it is made
 abbrev pub buffered_trace : List Line
 buffered_trace =
-    T 0 ∷ G 1 1 0 1 ∷ X ∷ R 0 ∷ N ∷ H 1 ∷ E ∷ T 1 ∷ R 1 ∷ W 0 1 ∷ E ∷ T 0 ∷ R 1 ∷ N ∷ H 1 ∷ E ∷ []
+    T 0 ∷ G 1 1 (span_of 0 1) ∷ X ∷ R 0 ∷ N ∷ H 1 ∷ E ∷ T 1 ∷ R 1 ∷ W (span_of 0 1) ∷ E ∷ T 0 ∷ R 1 ∷ N ∷ H 1 ∷ E ∷ []
 
 abbrev pub copier : List RegisterLine
 copier = Load 0 1 RelaxedRead ∷ Store 0 0 Relaxed ∷ []
@@ -74,11 +79,11 @@ abbrev pub adder : List RegisterLine
 adder = FetchAdd 0 0 1 RelaxedRead Relaxed ∷ []
 
 abbrev pub UpdatesClash : Type 0
-UpdatesClash = ending (two adder adder (T 0 ∷ U 0 1 ∷ E ∷ T 1 ∷ U 0 2 ∷ [])) ≡ refused_at 4 13
+UpdatesClash = ending (two adder adder (T 0 ∷ U (span_of 0 1) ∷ E ∷ T 1 ∷ U (span_of 0 2) ∷ [])) ≡ refused_at 4 13
 
 abbrev pub UpdatesFollow : Type 0
 UpdatesFollow =
-    ending (two adder adder (T 0 ∷ U 0 1 ∷ E ∷ T 1 ∷ U 1 2 ∷ []))
+    ending (two adder adder (T 0 ∷ U (span_of 0 1) ∷ E ∷ T 1 ∷ U (span_of 1 2) ∷ []))
     ≡ ends_with ((0 ∷ 0 ∷ 0 ∷ 0 ∷ []) ∷ (1 ∷ 0 ∷ 0 ∷ 0 ∷ []) ∷ (0 ∷ 0 ∷ 1 ∷ 0 ∷ []) ∷ (0 ∷ 1 ∷ 2 ∷ 0 ∷ []) ∷ [])
     ((1 ∷ 0 ∷ []) ∷ (2 ∷ 0 ∷ []) ∷ [])
 
@@ -88,24 +93,24 @@ sender = Store 0 0 Relaxed ∷ Store 1 0 Release ∷ []
 
 abbrev pub MessagePassing : Type 0
 MessagePassing =
-    ending (two sender (Load 0 1 Acquire ∷ Load 1 0 RelaxedRead ∷ []) (T 0 ∷ W 0 1 ∷ W 0 1 ∷ E ∷ T 1 ∷ R 1 ∷ R 0 ∷ [])) ≡ refused_at 6 11
+    ending (two sender (Load 0 1 Acquire ∷ Load 1 0 RelaxedRead ∷ []) (T 0 ∷ W (span_of 0 1) ∷ W (span_of 0 1) ∷ E ∷ T 1 ∷ R 1 ∷ R 0 ∷ [])) ≡ refused_at 6 11
 
 abbrev pub MessagePassingRelaxed : Type 0
 MessagePassingRelaxed =
-    ending (two sender (Load 0 1 RelaxedRead ∷ Load 1 0 RelaxedRead ∷ []) (T 0 ∷ W 0 1 ∷ W 0 1 ∷ E ∷ T 1 ∷ R 1 ∷ R 0 ∷ []))
+    ending (two sender (Load 0 1 RelaxedRead ∷ Load 1 0 RelaxedRead ∷ []) (T 0 ∷ W (span_of 0 1) ∷ W (span_of 0 1) ∷ E ∷ T 1 ∷ R 1 ∷ R 0 ∷ []))
     ≡ ends_with ((0 ∷ 0 ∷ 0 ∷ 0 ∷ []) ∷ (1 ∷ 0 ∷ 0 ∷ 0 ∷ []) ∷ (0 ∷ 0 ∷ 1 ∷ 0 ∷ []) ∷ (1 ∷ 0 ∷ 1 ∷ 0 ∷ []) ∷ [])
     ((1 ∷ 1 ∷ []) ∷ (0 ∷ 1 ∷ []) ∷ [])
 
 abbrev pub MessagePassingFenced : Type 0
 MessagePassingFenced =
-    ending (two sender (Load 0 1 RelaxedRead ∷ Fence AcquireFence ∷ Load 1 0 RelaxedRead ∷ []) (T 0 ∷ W 0 1 ∷ W 0 1 ∷ E ∷ T 1 ∷ R 1 ∷ N ∷ R 0 ∷ []))
+    ending (two sender (Load 0 1 RelaxedRead ∷ Fence AcquireFence ∷ Load 1 0 RelaxedRead ∷ []) (T 0 ∷ W (span_of 0 1) ∷ W (span_of 0 1) ∷ E ∷ T 1 ∷ R 1 ∷ N ∷ R 0 ∷ []))
     ≡ refused_at 7 11
 
 -- store buffering with sequential fences: not both read the old value
 abbrev pub StoreBufferingFenced : Type 0
 StoreBufferingFenced =
     ending (two (Constant 1 1 ∷ Store 0 1 Relaxed ∷ Fence Sequential ∷ Load 0 1 RelaxedRead ∷ []) (Constant 1 1 ∷ Store 1 1 Relaxed ∷ Fence Sequential ∷ Load 0 0 RelaxedRead ∷ [])
-    (T 0 ∷ N ∷ W 0 1 ∷ N ∷ R 0 ∷ E ∷ T 1 ∷ N ∷ W 0 1 ∷ N ∷ R 0 ∷ []))
+    (T 0 ∷ N ∷ W (span_of 0 1) ∷ N ∷ R 0 ∷ E ∷ T 1 ∷ N ∷ W (span_of 0 1) ∷ N ∷ R 0 ∷ []))
     ≡ refused_at 10 11
 
 -- a showing writes above the closing line only
@@ -113,11 +118,11 @@ abbrev pub writer : List RegisterLine
 writer = Store 0 0 Relaxed ∷ Store 0 0 Relaxed ∷ Constant 1 1 ∷ Store 1 1 Relaxed ∷ []
 
 abbrev pub AtTheClosingLine : Type 0
-AtTheClosingLine = ending (two writer [] (T 0 ∷ W 0 1 ∷ G 1 1 0 1 ∷ X ∷ W 1 2 ∷ [])) ≡ refused_at 4 14
+AtTheClosingLine = ending (two writer [] (T 0 ∷ W (span_of 0 1) ∷ G 1 1 (span_of 0 1) ∷ X ∷ W (span_of 1 2) ∷ [])) ≡ refused_at 4 14
 
 abbrev pub AboveTheClosingLine : Type 0
 AboveTheClosingLine =
-    ending (two writer [] (T 0 ∷ W 0 1 ∷ G 1 1 0 1 ∷ X ∷ W 2 3 ∷ N ∷ H 1 ∷ E ∷ []))
+    ending (two writer [] (T 0 ∷ W (span_of 0 1) ∷ G 1 1 (span_of 0 1) ∷ X ∷ W (span_of 2 3) ∷ N ∷ H 1 ∷ E ∷ []))
     ≡ ends_with ((0 ∷ 0 ∷ 0 ∷ 0 ∷ []) ∷ (1 ∷ 0 ∷ 0 ∷ 0 ∷ []) ∷ (0 ∷ 0 ∷ 1 ∷ 0 ∷ []) ∷ (1 ∷ 0 ∷ 1 ∷ 1 ∷ []) ∷ [])
     ((1 ∷ 0 ∷ []) ∷ (0 ∷ 0 ∷ []) ∷ [])
 

@@ -1,6 +1,8 @@
 -- The number and the layer of each refusal.
 use Rattle.std.specs.Prelude.{ℕ}
 use Rattle.stores.specs.declared.kept.StoreFault.TheVariants.{Full}
+use Rattle.lines.specs.declared.layer.Layer.{Layer}
+use Rattle.lines.specs.declared.layer.Layer.TheVariants as part
 use Rattle.rules.specs.declared.fault.StepFault.{StepFault}
 use Rattle.rules.specs.declared.fault.StepFault.TheVariants.{Range, Moment, Kind, Owing, NoMessage, TooNew, Value, Span, ClosingLine, Store, LogFull, StillOwing}
 
@@ -18,17 +20,16 @@ number (Store Full) = 15
 number LogFull = 15
 number StillOwing = 16
 
--- 1 line, 2 step, 3 store
-abbrev pub layer : StepFault → ℕ
-layer Range = 1
-layer Moment = 2
-layer Kind = 2
-layer Owing = 2
-layer NoMessage = 2
-layer TooNew = 2
-layer Value = 2
-layer Span = 2
-layer ClosingLine = 2
-layer (Store f) = 3
-layer LogFull = 3
-layer StillOwing = 2
+abbrev pub layer : StepFault → Layer
+layer Range = part.Line
+layer Moment = part.Step
+layer Kind = part.Step
+layer Owing = part.Step
+layer NoMessage = part.Step
+layer TooNew = part.Step
+layer Value = part.Step
+layer Span = part.Step
+layer ClosingLine = part.Step
+layer (Store f) = part.Store
+layer LogFull = part.Store
+layer StillOwing = part.Step

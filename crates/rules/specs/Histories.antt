@@ -1,5 +1,6 @@
 -- The history of a run: what its accepted lines outside showings did.
-use Rattle.std.specs.Prelude.{ℕ, cond, ◌&&◌, List, [], ◌∷◌, ◌++◌, Some, None, Option, ◌==◌}
+use Rattle.std.specs.Prelude.{ℕ, if◌then◌else◌, ◌&&◌, List, [], ◌∷◌, ◌++◌, Some, None, Option, ◌==◌}
+use Rattle.lines.specs.declared.span.Span.{Span}
 use Rattle.lines.specs.declared.trace.Line.{Line}
 use Rattle.lines.specs.declared.trace.Line.TheVariants.{Turn as T, Next as N, Read as R, Write as W, Update as U, Promise as G, Keep as H, Show as X, EndTurn as E}
 use Rattle.languages.specs.declared.action.Action.{Action}
@@ -30,14 +31,14 @@ abbrev pub read_event : ℕ → ℕ → Option (ℕ × ReadMode) → List Event
 read_event i t None = []
 read_event i t (Some xo) = was_read i xo.0 t ∷ []
 
-abbrev pub write_event : ℕ → Thread → ℕ → ℕ → Action → List Event
-write_event i k f t Silent = []
-write_event i k f t (Read x o) = []
-write_event i k f t (Write x v o) = was_written i (written x v f t (write_views o x t k.views)) ∷ []
-write_event i k f t (Update x o w) = []
-write_event i k f t (Fence o) = []
-write_event i k f t (Print v) = []
-write_event i k f t Ended = []
+abbrev pub write_event : ℕ → Thread → Span → Action → List Event
+write_event i k s Silent = []
+write_event i k s (Read x o) = []
+write_event i k s (Write x v o) = was_written i (written x v s (write_views o x s.to k.views)) ∷ []
+write_event i k s (Update x o w) = []
+write_event i k s (Fence o) = []
+write_event i k s (Print v) = []
+write_event i k s Ended = []
 
 -- the value that is written in place of the one read
 abbrev pub replaced : Taking → ℕ
@@ -45,22 +46,22 @@ replaced NotTaken = 0
 replaced OnlyRead = 0
 replaced (Replaced v) = v
 
-abbrev pub update_of : ℕ → Thread → ℕ → ReadMode → WriteMode → ℕ → ℕ → List Message → Option ℕ → List Event
-update_of i k x o w f t ms None = []
-update_of i k x o w f t ms (Some j) =
-    was_updated i f
-    (updated_message x (replaced ((k.does []).takes (message_at ms j).value)) f t (message_at ms j).view
-    (update_views o w x f t (message_at ms j).view k.views))
+abbrev pub update_of : ℕ → Thread → ℕ → ReadMode → WriteMode → Span → List Message → Option ℕ → List Event
+update_of i k x o w s ms None = []
+update_of i k x o w s ms (Some j) =
+    was_updated i s.from
+    (updated_message x (replaced ((k.does []).takes (message_at ms j).value)) s (message_at ms j).view
+    (update_views o w x s (message_at ms j).view k.views))
     ∷ []
 
-abbrev pub update_event : ℕ → Thread → ℕ → ℕ → List Message → Action → List Event
-update_event i k f t ms Silent = []
-update_event i k f t ms (Read x o) = []
-update_event i k f t ms (Write x v o) = []
-update_event i k f t ms (Update x o w) = update_of i k x o w f t ms (find x f ms)
-update_event i k f t ms (Fence o) = []
-update_event i k f t ms (Print v) = []
-update_event i k f t ms Ended = []
+abbrev pub update_event : ℕ → Thread → Span → List Message → Action → List Event
+update_event i k s ms Silent = []
+update_event i k s ms (Read x o) = []
+update_event i k s ms (Write x v o) = []
+update_event i k s ms (Update x o w) = update_of i k x o w s ms (find x s.from ms)
+update_event i k s ms (Fence o) = []
+update_event i k s ms (Print v) = []
+update_event i k s ms Ended = []
 
 abbrev pub keep_event : ℕ → ℕ → Action → List Event
 keep_event i t Silent = []
@@ -76,9 +77,9 @@ abbrev pub event : ℕ → Line → Run → List Event
 event i (T j) r = []
 event i N r = []
 event i (R t) r = read_event i t (reads (next_of r.locations (thread_at r i).does))
-event i (W f t) r = write_event i (thread_at r i) f t (next_of r.locations (thread_at r i).does)
-event i (U f t) r = update_event i (thread_at r i) f t r.memory (next_of r.locations (thread_at r i).does)
-event i (G x v f t) r = was_promised i (promised_message (thread_at r i).views x v f t) ∷ []
+event i (W s) r = write_event i (thread_at r i) s (next_of r.locations (thread_at r i).does)
+event i (U s) r = update_event i (thread_at r i) s r.memory (next_of r.locations (thread_at r i).does)
+event i (G x v s) r = was_promised i (promised_message (thread_at r i).views x v s) ∷ []
 event i (H t) r = keep_event i t (next_of r.locations (thread_at r i).does)
 event i X r = []
 event i E r = []
@@ -99,9 +100,9 @@ abbrev pub moves : Place → Line → Place
 moves a (T i) = turn_of i
 moves a N = a
 moves a (R t) = a
-moves a (W f t) = a
-moves a (U f t) = a
-moves a (G x v f t) = a
+moves a (W s) = a
+moves a (U s) = a
+moves a (G x v s) = a
 moves a (H t) = a
 moves a X = shows_at a
 moves a E = no_turn
@@ -158,7 +159,7 @@ present l es = initials l ++ messages es
 -- without those at x that end at t
 abbrev pub without : ℕ → ℕ → List Message → List Message
 without x t [] = []
-without x t (m ∷ ms) = cond (ends_at x t m) (without x t ms) (m ∷ without x t ms)
+without x t (m ∷ ms) = if ends_at x t m then without x t ms else m ∷ without x t ms
 
 -- what thread i owes after a history, where it owed ms before it: each promise until it is kept
 abbrev pub owes_after : ℕ → List Message → List Event → List Message
@@ -166,19 +167,19 @@ owes_after i ms [] = ms
 owes_after i ms (was_read j x t ∷ es) = owes_after i ms es
 owes_after i ms (was_written j m ∷ es) = owes_after i ms es
 owes_after i ms (was_updated j f m ∷ es) = owes_after i ms es
-owes_after i ms (was_promised j m ∷ es) = owes_after i (cond (j == i) (ms ++ (m ∷ [])) ms) es
-owes_after i ms (was_kept j x t ∷ es) = owes_after i (cond (j == i) (without x t ms) ms) es
+owes_after i ms (was_promised j m ∷ es) = owes_after i (if j == i then ms ++ (m ∷ []) else ms) es
+owes_after i ms (was_kept j x t ∷ es) = owes_after i (if j == i then without x t ms else ms) es
 
 -- an access of thread j at y, for the times of thread i at x
 abbrev pub if_this : ℕ → ℕ → ℕ → ℕ → List ℕ → List ℕ
-if_this i x j y ts = cond (j == i && y == x) ts []
+if_this i x j y ts = if j == i && y == x then ts else []
 
 -- the times of the accesses of thread i at x: the end read, written or kept, of an update the end read and then the end written
 abbrev pub times : ℕ → ℕ → List Event → List ℕ
 times i x [] = []
 times i x (was_read j y t ∷ es) = if_this i x j y (t ∷ []) ++ times i x es
-times i x (was_written j m ∷ es) = if_this i x j m.location (m.to ∷ []) ++ times i x es
-times i x (was_updated j f m ∷ es) = if_this i x j m.location (f ∷ m.to ∷ []) ++ times i x es
+times i x (was_written j m ∷ es) = if_this i x j m.location (m.span.to ∷ []) ++ times i x es
+times i x (was_updated j f m ∷ es) = if_this i x j m.location (f ∷ m.span.to ∷ []) ++ times i x es
 times i x (was_promised j m ∷ es) = times i x es
 times i x (was_kept j y t ∷ es) = if_this i x j y (t ∷ []) ++ times i x es
 

@@ -46,11 +46,11 @@ NeverBack es = (i x : ℕ) → RisingFrom 0 (times i x es)
 
 -- a message is an initial one, or its span is not empty and its view has its end at its location
 abbrev pub WellFormed : Message → Type 0
-WellFormed m = (m ≡ initial m.location) ⊎ ((m.from < m.to) × (at m.view m.location ≡ m.to))
+WellFormed m = (m ≡ initial m.location) ⊎ ((m.span.from < m.span.to) × (at m.view m.location ≡ m.span.to))
 
 -- a message neither overlaps one of these nor ends where one of these at its location ends
 abbrev pub ApartFrom : Message → List Message → Type 0
-ApartFrom m ns = (n : Message) → In n ns → n.location ≡ m.location → (Overlaps m.location m.from m.to n → ⊥) × (n.to ≢ m.to)
+ApartFrom m ns = (n : Message) → In n ns → n.location ≡ m.location → (Overlaps m.location m.span n → ⊥) × (n.span.to ≢ m.span.to)
 
 -- no two messages overlap or have one end at one location
 abbrev pub Apart : List Message → Type 0
@@ -59,7 +59,7 @@ Apart (m ∷ ms) = ApartFrom m ms × Apart ms
 
 -- each end in the view is 0 or the end of a message at its location
 abbrev pub Known : List Message → View → Type 0
-Known ms v = (x : ℕ) → (at v x ≡ 0) ⊎ ((m : Message) × In m ms × (m.location ≡ x) × (m.to ≡ at v x))
+Known ms v = (x : ℕ) → (at v x ≡ 0) ⊎ ((m : Message) × In m ms × (m.location ≡ x) × (m.span.to ≡ at v x))
 
 pub record KnownViews (ms : List Message) (vs : Views) : Type 0 where
   pub cur : Known ms vs.cur

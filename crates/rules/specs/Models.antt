@@ -1,5 +1,6 @@
 -- What a run stands for, with its language and its store left behind.
-use Rattle.std.specs.Prelude.{ℕ, Bool, false, List, [], ◌∷◌, length, take, replicate, slice_index_or, slice_set}
+use Rattle.std.specs.Prelude.{ℕ, Bool, false, List, map, length, take, replicate, slice_index_or, slice_set}
+use Rattle.std.specs.List.{range_with_len}
 use Rattle.languages.specs.declared.action.Action.TheVariants.{Ended}
 use Rattle.languages.specs.declared.action.Taking.TheVariants.{NotTaken}
 use Rattle.languages.specs.Behaviours.{Behaviour}
@@ -87,12 +88,7 @@ in_phase r ph =
 
 -- the greatest end of each location
 abbrev pub closing_line : List Message → View
-closing_line ms =
-    record {
-      ends =
-          greatest_end 0 ms ∷ greatest_end 1 ms ∷ greatest_end 2 ms ∷ greatest_end 3 ms ∷ greatest_end 4 ms ∷ greatest_end 5 ms ∷ greatest_end 6 ms
-          ∷ greatest_end 7 ms ∷ [];
-    }
+closing_line ms = record { ends = map (λ x. greatest_end x ms) (range_with_len 0 8) }
 
 abbrev pub saved : Run → ℕ → Saved
 saved r i = record { thread = thread_at r i; sc = r.sc; messages = length r.memory; prints = length r.log }

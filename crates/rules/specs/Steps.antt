@@ -1,5 +1,6 @@
 -- The lines of a run, as a relation over the steps of its threads.
 use Rattle.std.specs.Prelude.{◌≡◌, ℕ, ◌<◌, ◌≤◌, Bool, false, List, [], ◌∷◌, ◌++◌, length, Some, None, Option, slice_index_or}
+use Rattle.lines.specs.declared.span.Span.{Span}
 use Rattle.lines.specs.declared.trace.Line.{Line}
 use Rattle.lines.specs.declared.trace.Line.TheVariants.{Turn as T, Promise as G, Show as X, EndTurn as E}
 use Rattle.languages.specs.declared.action.Action.{Action}
@@ -51,13 +52,13 @@ pub data Step (r : Run) : Line → Run → Type 0 where
         sc = S;
         log = r.log ++ printed i (next_of r.locations (thread_at r i).does);
       }))
-  promises : (i x v f t : ℕ)
+  promises : (i x v : ℕ) (s : Span)
       → r.phase ≡ turn i → x < r.locations
-      → at (thread_at r i).views.cur x < t → f < t → Free x f t r.memory
+      → at (thread_at r i).views.cur x < s.to → s.from < s.to → Free x s r.memory
       → length r.memory < r.capacity
-      → Step r (G x v f t) (with_part r i (record {
+      → Step r (G x v s) (with_part r i (record {
         thread = owing (thread_at r i) (length r.memory);
-        memory = r.memory ++ (promised_message (thread_at r i).views x v f t ∷ []);
+        memory = r.memory ++ (promised_message (thread_at r i).views x v s ∷ []);
         capacity = r.capacity;
         sc = r.sc;
         log = r.log;

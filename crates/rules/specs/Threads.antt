@@ -1,5 +1,7 @@
 -- How the views of a thread change, and which messages it owes.
-use Rattle.std.specs.Prelude.{ℕ, ◌+◌, Bool, true, false, cond, not, ◌&&◌, ◌||◌, List, [], ◌∷◌, replicate, Some, None, Option, ◌==◌, nat_lt, slice_index_or, slice_set}
+use Rattle.std.specs.Prelude.{ℕ, Bool, true, if◌then◌else◌, not, ◌&&◌, List, [], ◌∷◌, replicate, zip, Some, None, Option, ◌==◌, nat_lt, slice_index_or, slice_set}
+use Rattle.lines.specs.declared.span.Span.{Span}
+use Rattle.std.specs.List.{list_all, list_any, position_from}
 use Rattle.languages.specs.declared.action.Action.{Action}
 use Rattle.languages.specs.declared.action.Action.TheVariants.{Silent, Read, Write, Update, Fence, Print, Ended}
 use Rattle.languages.specs.declared.action.ReadMode.{ReadMode}
@@ -16,9 +18,9 @@ use Rattle.rules.specs.Models.{Views, Thread}
 -- an action at location l or beyond counts as ended
 abbrev pub within : ℕ → Action → Action
 within l Silent = Silent
-within l (Read x o) = cond (nat_lt x l) (Read x o) Ended
-within l (Write x v o) = cond (nat_lt x l) (Write x v o) Ended
-within l (Update x o p) = cond (nat_lt x l) (Update x o p) Ended
+within l (Read x o) = if nat_lt x l then Read x o else Ended
+within l (Write x v o) = if nat_lt x l then Write x v o else Ended
+within l (Update x o p) = if nat_lt x l then Update x o p else Ended
 within l (Fence o) = Fence o
 within l (Print v) = Print v
 within l Ended = Ended
@@ -63,21 +65,21 @@ write_views o x t vs =
       rel = slice_set vs.rel x (write_rel o (join (rel_at vs x) (single x t)) (join vs.cur (single x t)));
     }
 
--- an update reads the message that ends at f and has the view m, and then writes up to t
-abbrev pub update_views : ReadMode → WriteMode → ℕ → ℕ → ℕ → View → Views → Views
-update_views o w x f t m vs = write_views w x t (read_views o x f m vs)
+-- an update reads the message that ends where the span s begins and has the view m, and then writes s
+abbrev pub update_views : ReadMode → WriteMode → ℕ → Span → View → Views → Views
+update_views o w x s m vs = write_views w x s.to (read_views o x s.from m vs)
 
 -- the message that a write makes, with the views after it
-abbrev pub written : ℕ → ℕ → ℕ → ℕ → Views → Message
-written x v f t vs = record { location = x; from = f; to = t; value = v; view = rel_at vs x }
+abbrev pub written : ℕ → ℕ → Span → Views → Message
+written x v s vs = record { location = x; span = s; value = v; view = rel_at vs x }
 
 -- the message that an update makes, with the views after it: its view also takes in that of the message read
-abbrev pub updated_message : ℕ → ℕ → ℕ → ℕ → View → Views → Message
-updated_message x v f t m vs = record { location = x; from = f; to = t; value = v; view = join (rel_at vs x) m }
+abbrev pub updated_message : ℕ → ℕ → Span → View → Views → Message
+updated_message x v s m vs = record { location = x; span = s; value = v; view = join (rel_at vs x) m }
 
 -- the message that a promise makes
-abbrev pub promised_message : Views → ℕ → ℕ → ℕ → ℕ → Message
-promised_message vs x v f t = record { location = x; from = f; to = t; value = v; view = join (rel_at vs x) (single x t) }
+abbrev pub promised_message : Views → ℕ → ℕ → Span → Message
+promised_message vs x v s = record { location = x; span = s; value = v; view = join (rel_at vs x) (single x s.to) }
 
 -- cur becomes acq
 abbrev pub acquire_views : Views → Views
@@ -97,26 +99,21 @@ all_views s = record { cur = s; acq = s; rel = replicate 8 s }
 
 -- no mark is set
 abbrev pub none_owed : List Bool → Bool
-none_owed [] = true
-none_owed (b ∷ bs) = not b && none_owed bs
+none_owed bs = list_all not bs
 
 -- the messages that are marked, in order of arrival
 abbrev pub marked : List Bool → List Message → List Message
 marked [] ms = []
 marked (b ∷ bs) [] = []
-marked (b ∷ bs) (m ∷ ms) = cond b (m ∷ marked bs ms) (marked bs ms)
+marked (b ∷ bs) (m ∷ ms) = if b then m ∷ marked bs ms else marked bs ms
 
 -- a message at x is marked
 abbrev pub owes_at : ℕ → List Bool → List Message → Bool
-owes_at x [] ms = false
-owes_at x (b ∷ bs) [] = false
-owes_at x (b ∷ bs) (m ∷ ms) = (b && m.location == x) || owes_at x bs ms
+owes_at x bs ms = list_any (λ p. p.0 && p.1.location == x) (zip bs ms)
 
 -- the arrival number of the first marked message of x that ends at t, where the list's first has number k
 abbrev pub find_owed_from : ℕ → ℕ → ℕ → List Bool → List Message → Option ℕ
-find_owed_from k x t [] ms = None
-find_owed_from k x t (b ∷ bs) [] = None
-find_owed_from k x t (b ∷ bs) (m ∷ ms) = cond (b && ends_at x t m) (Some k) (find_owed_from (k + 1) x t bs ms)
+find_owed_from k x t bs ms = position_from (λ p. p.0 && ends_at x t p.1) k (zip bs ms)
 
 abbrev pub find_owed : ℕ → ℕ → List Bool → List Message → Option ℕ
 find_owed x t bs ms = find_owed_from 0 x t bs ms

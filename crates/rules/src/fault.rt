@@ -3,9 +3,10 @@ ghost use Rattle.std.specs.Prelude.{◌≡◌};
 ghost use Rattle.rules.specs.Faults.{number, layer};
 ghost use Rattle.rules.specs.declared.fault.StepFault.TheVariants.{Store as StoreOf};
 
+pub use lines::layer::Layer;
 use stores::kept::StoreFault;
 
-#[derive(Clone, Copy)]
+#[derive(Clone, Copy, PartialEq, Eq, Debug)]
 pub enum StepFault {
     // a thread or a location that is not there
     Range,
@@ -42,6 +43,7 @@ impl From<StoreFault> for StepFault {
 }
 
 impl StepFault {
+    // as a report prints it
     pub fn number(self) -> u8
         ensures { result ≡ number self }
     {
@@ -60,14 +62,13 @@ impl StepFault {
         }
     }
 
-    // 1 line, 2 step, 3 store
-    pub fn layer(self) -> u8
+    pub fn layer(self) -> Layer
         ensures { result ≡ layer self }
     {
         match self {
-            StepFault::Range => 1,
-            StepFault::Store(_) | StepFault::LogFull => 3,
-            _ => 2,
+            StepFault::Range => Layer::Line,
+            StepFault::Store(_) | StepFault::LogFull => Layer::Store,
+            _ => Layer::Step,
         }
     }
 }

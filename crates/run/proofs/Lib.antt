@@ -1,10 +1,7 @@
 pub mod ViewOrders
-pub mod Logs
 pub mod Marks
-pub mod Lines
 pub mod Lifts
 pub mod Moments
 pub mod Makings
-pub mod Nths
 pub mod Played
 pub mod Owing

@@ -1,5 +1,6 @@
 -- A thread's own step, as a step of the run.
-use Rattle.std.proofs.Common.{◌≡◌, ℕ, zero, suc, ◌<◌, Bool, true, false, cond, ◌⊎◌, List, [], ◌∷◌, map, length, get_or, take, set, Ok, Result, sym, refl, ap, ◌∙◌, subst, inl, inr, arith}
+use Rattle.std.proofs.Common.{◌≡◌, ℕ, ◌<◌, Bool, true, false, cond, ◌⊎◌, List, map, length, get_or, take, set, Ok, Result, sym, refl, ap, ◌∙◌, subst, inl, inr}
+use Rattle.std.proofs.Math.Seq.{take-set-lt}
 use Rattle.std.proofs.lemmas.Bool.{cond-true, cond-false}
 use Rattle.std.proofs.lemmas.List.{get_or-map, get_or-take, map-set, set-get_or}
 use Rattle.stores.specs.declared.view.View.{View}
@@ -20,17 +21,11 @@ use Rattle.run.specs.declared.state.Phase.TheVariants.{Between, Turn, Showing}
 use Rattle.run.specs.Models.{log_of, thread_of, saved_of, phase_of, part_of}
 use Rattle.run.specs.Turns.{whose}
 
-pub take_set : {A : Type 0} (n : ℕ) (xs : List A) (i : ℕ) (x : A) → take n (set xs i x) ≡ set (take n xs) i x
-take_set zero xs i x = refl
-take_set (suc n) [] i x = refl
-take_set (suc n) (y ∷ ys) zero x = refl
-take_set (suc n) (y ∷ ys) (suc i) x = ap (λ zs. y ∷ zs) (take_set n ys i x)
-
 pub agrees_by : {Y : Type 0} {t u : Tried Y} (y : Y) (r : Result (Unit {0}) StepFault) (z : Y) → t ≡ u → Agrees u y r z → Agrees t y r z
 agrees_by {Y = Y} y r z e h = subst (λ (t : Tried Y). Agrees t y r z) (sym e) h
 
 -- what a part's step is to the whole
-pub lifts : (m : model.Run) (i : ℕ) (p' : model.Part) (t : Tried model.Part) (r : Result (Unit {0}) StepFault)
+lifts : (m : model.Run) (i : ℕ) (p' : model.Part) (t : Tried model.Part) (r : Result (Unit {0}) StepFault)
     → Agrees t (part_at m i) r p' → Agrees (lifted m i t) m r (with_part m i p')
 lifts m i p' (went q) r h = (h.0, ap (with_part m i) h.1)
 lifts m i p' (refused e) r h = (
@@ -59,23 +54,23 @@ module _ {L S : Type 0} (l : Language L) (s : Store S) (locations count : ℕ) w
       → thread_of l (get_or ths i d) ≡ get_or (take count (map (thread_of l) ths)) i nobody
   thread_read ths i d few lt = sym (get_or-take count (map (thread_of l) ths) i nobody few ∙ get_or-map (thread_of l) ths i d nobody lt)
 
-  pub threads_set : (ths : List (Thread L)) (i : ℕ) (th : Thread L) → take count (map (thread_of l) (set ths i th)) ≡ set (take count (map (thread_of l) ths)) i (thread_of l th)
-  threads_set ths i th = ap (take count) (map-set (thread_of l) ths i th) ∙ take_set count (map (thread_of l) ths) i (thread_of l th)
+  pub threads_set : (ths : List (Thread L)) (i : ℕ) (th : Thread L) → i < count → take count (map (thread_of l) (set ths i th)) ≡ set (take count (map (thread_of l) ths)) i (thread_of l th)
+  threads_set ths i th few = ap (take count) (map-set (thread_of l) ths i th) ∙ take-set-lt count (map (thread_of l) ths) i (thread_of l th) few
 
-  pub lift_run : (ths : List (Thread L)) (sh sh' : Shared S) (ph : model.Phase) (i : ℕ) (d th' : Thread L) (rule : model.Part → Tried model.Part)
-      (r : Result (Unit {0}) StepFault) → i < count → i < length ths
-      → Agrees (rule (part_of l s (get_or ths i d) sh)) (part_of l s (get_or ths i d) sh) r (part_of l s th' sh')
-      → Agrees (lifted (whole ths sh ph) i (rule (part_at (whole ths sh ph) i))) (whole ths sh ph) r (whole (set ths i th') sh' ph)
-  lift_run ths sh sh' ph i d th' rule r few lt h =
+  pub lift_run : (ths : List (Thread L)) (sh sh' : Shared S) (ph : model.Phase) (i w : ℕ) (d th' : Thread L) (rule : ℕ → model.Part → Tried model.Part)
+      (r : Result (Unit {0}) StepFault) → i ≡ w → i < count → i < length ths
+      → Agrees (rule i (part_of l s (get_or ths i d) sh)) (part_of l s (get_or ths i d) sh) r (part_of l s th' sh')
+      → Agrees (lifted (whole ths sh ph) w (rule w (part_at (whole ths sh ph) w))) (whole ths sh ph) r (whole (set ths i th') sh' ph)
+  lift_run ths sh sh' ph i w d th' rule r e few lt h =
       let m : model.Run = whole ths sh ph in
       let same : part_of l s (get_or ths i d) sh ≡ part_at m i =
       ap
       (λ (k : model.Thread).
       record { thread = k; memory = s.held sh.store; capacity = s.capacity sh.store; sc = sh.sc; log = log_of sh.log })
       (thread_read ths i d few lt) in
-      let h' : Agrees (rule (part_at m i)) (part_at m i) r (part_of l s th' sh') =
-      subst (λ (p : model.Part). Agrees (rule p) p r (part_of l s th' sh')) same h in
-      let done = lifts m i (part_of l s th' sh') (rule (part_at m i)) r h' in
+      let h' : Agrees (rule i (part_at m i)) (part_at m i) r (part_of l s th' sh') =
+      subst (λ (p : model.Part). Agrees (rule i p) p r (part_of l s th' sh')) same h in
+      let done = lifts m i (part_of l s th' sh') (rule i (part_at m i)) r h' in
       let end : List model.Thread → model.Run =
       λ ks.
       record {
@@ -87,29 +82,34 @@ module _ {L S : Type 0} (l : Language L) (s : Store S) (locations count : ℕ) w
         log = log_of sh'.log;
         phase = ph;
       } in
-      subst (λ (ks : List model.Thread). Agrees (lifted m i (rule (part_at m i))) m r (end ks)) (sym (threads_set ths i th')) done
-
-  -- whether thread i owes nothing
-  pub owes : (ths : List (Thread L)) (i : ℕ) (d : Thread L) (b : Bool) → i < count → i < length ths → b ≡ none_owed (get_or ths i d).owed.marks
-      → b ≡ none_owed (get_or (take count (map (thread_of l) ths)) i nobody).owed
-  owes ths i d b few lt h = h ∙ ap (λ (k : model.Thread). none_owed k.owed) (thread_read ths i d few lt)
+      subst (λ (n : ℕ). Agrees (lifted m n (rule n (part_at m n))) m r (whole (set ths i th') sh' ph)) e
+      (subst (λ (ks : List model.Thread). Agrees (lifted m i (rule i (part_at m i))) m r (end ks)) (sym (threads_set ths i th' few)) done)
 
   abbrev owed_by : List (Thread L) → ℕ → Bool
   owed_by ths i = none_owed (get_or (take count (map (thread_of l) ths)) i nobody).owed
 
+  -- whether thread i owes nothing
+  pub owes : (ths : List (Thread L)) (i w : ℕ) (d : Thread L) (b : Bool) → i ≡ w → i < count → i < length ths → b ≡ none_owed (get_or ths i d).owed.marks
+      → b ≡ owed_by ths w
+  owes ths i w d b e few lt h = h ∙ ap (λ (k : model.Thread). none_owed k.owed) (thread_read ths i d few lt) ∙ ap (owed_by ths) e
+
   -- a showing that begins
-  pub shown : (ths : List (Thread L)) (sh : Shared S) (ph : model.Phase) (i : ℕ) (d copy : Thread L) (n p : ℕ) (closing : View) → i < count
-      → i < length ths → owed_by ths i ≡ false → thread_of l copy ≡ thread_of l (get_or ths i d) → n ≡ length (s.held sh.store)
+  pub shown : (ths : List (Thread L)) (sh : Shared S) (ph : model.Phase) (i w : ℕ) (d copy : Thread L) (n p : ℕ) (closing : View) → i ≡ w → i < count
+      → i < length ths → owed_by ths w ≡ false → thread_of l copy ≡ thread_of l (get_or ths i d) → n ≡ length (s.held sh.store)
       → p ≡ length (log_of sh.log) → closing ≡ closing_line (s.held sh.store)
-      → Agrees (show_in (whole ths sh ph) (turn i)) (whole ths sh ph) (Ok tt)
+      → Agrees (show_in (whole ths sh ph) (turn w)) (whole ths sh ph) (Ok tt)
       (whole ths sh (showing i (record { thread = thread_of l copy; sc = sh.sc; messages = n; prints = p }) closing))
-  shown ths sh ph i d copy n p closing few lt b ek en ep ec =
-      agrees_by _ _ _ (cond-false _ _ _ b) (
-        refl,
-        λ j.
-            whole ths sh
-            (showing i (record { thread = (ek ∙ thread_read ths i d few lt) j; sc = sh.sc; messages = en j; prints = ep j }) (ec j)),
-      )
+  shown ths sh ph i w d copy n p closing e few lt b ek en ep ec =
+      let thread = ek ∙ thread_read ths i d few lt ∙ ap (λ (k : ℕ). get_or (take count (map (thread_of l) ths)) k nobody) e in
+      agrees_by _ _ _ (cond-false _ _ _ b)
+      (refl, λ j. whole ths sh (showing (e j) (record { thread = thread j; sc = sh.sc; messages = en j; prints = ep j }) (ec j)))
+
+  -- the phase, by the thread whose turn or showing it is
+  pub turn_is : (ph : Phase L) (i : ℕ) → ph ≡ Turn i → phase_of l ph ≡ turn (whose ph)
+  turn_is ph i e = ap (phase_of l) e ∙ ap turn (sym (ap whose e))
+
+  pub showing_is : (ph : Phase L) (i : ℕ) (sv : Saved L) → ph ≡ Showing i sv → phase_of l ph ≡ showing (whose ph) (saved_of l sv) sv.closing.ends
+  showing_is ph i sv e = ap (phase_of l) e ∙ ap (λ (k : ℕ). showing k (saved_of l sv) sv.closing.ends) (sym (ap whose e))
 
   abbrev ending : List (Thread L) → Shared S → Phase L → ℕ → Tried model.Run
   ending ths sh ph i = cond (owed_by ths i) (went (in_phase (undone (whole ths sh (phase_of l ph))) between)) (refused StillOwing)
@@ -118,8 +118,8 @@ module _ {L S : Type 0} (l : Language L) (s : Store S) (locations count : ℕ) w
       → undone (whole ths sh (phase_of l ph)) ≡ whole ths sh (phase_of l ph)
   not_showing ths sh Between h = refl
   not_showing ths sh (Turn i) h = refl
-  not_showing ths sh (Showing i sv) (inl e) = let z : ◌≡◌ {A = ℕ} 0 1 = cc in absurd (omega arith)
-  not_showing ths sh (Showing i sv) (inr e) = let q = e.1 in let z : ◌≡◌ {A = ℕ} 0 1 = cc in absurd (omega arith)
+  not_showing ths sh (Showing i sv) (inl e) = cc
+  not_showing ths sh (Showing i sv) (inr e) = let q = e.1 in cc
 
   -- the end of a turn
   pub ended_turn : (ths : List (Thread L)) (sh : Shared S) (ph ph' : Phase L) (i : ℕ) → (ph ≡ Between) ⊎ ((x : ℕ) × (ph ≡ Turn x))
@@ -130,16 +130,11 @@ module _ {L S : Type 0} (l : Language L) (s : Store S) (locations count : ℕ) w
       (refl, ap (λ (p : Phase L). whole ths sh (phase_of l p)) e' ∙ ap (λ (r : model.Run). in_phase r between) (sym (not_showing ths sh ph h)))
 
   -- the end of a showing
-  pub ended_showing : (ths : List (Thread L)) (sh : Shared S) (ph ph' : Phase L) (i f : ℕ) (sv : Saved L) (m' : model.Run) → ph ≡ Showing f sv
-      → whose ph ≡ i → ph' ≡ Between → owed_by ths i ≡ true
-      → m' ≡ in_phase (put_back (whole ths sh (phase_of l ph')) i (saved_of l sv)) (phase_of l ph')
-      → Agrees (ending ths sh ph i) (whole ths sh (phase_of l ph)) (Ok tt) m'
-  ended_showing ths sh ph ph' i f sv m' e w e' b h =
+  pub ended_showing : (ths : List (Thread L)) (sh : Shared S) (ph ph' : Phase L) (i : ℕ) (sv : Saved L) (m' : model.Run) → ph ≡ Showing i sv
+      → ph' ≡ Between → owed_by ths (whose ph) ≡ true → m' ≡ in_phase (put_back (whole ths sh (phase_of l ph')) i (saved_of l sv)) (phase_of l ph')
+      → Agrees (ending ths sh ph (whose ph)) (whole ths sh (phase_of l ph)) (Ok tt) m'
+  ended_showing ths sh ph ph' i sv m' e e' b h =
       let m : model.Run = whole ths sh (phase_of l ph) in
-      let same : f ≡ i = sym (ap whose e) ∙ w in
-      let back : undone m ≡ put_back m i (saved_of l sv) = ap (λ (p : Phase L). undone (whole ths sh (phase_of l p))) e ∙ put same in
+      let back : undone m ≡ put_back m i (saved_of l sv) = ap (λ (p : Phase L). undone (whole ths sh (phase_of l p))) e in
       agrees_by _ _ _ (cond-true _ _ _ b)
       (refl, h ∙ ap (λ (p : Phase L). in_phase (put_back m i (saved_of l sv)) (phase_of l p)) e' ∙ ap (λ (r : model.Run). in_phase r between) (sym back))
-    where
-      put : f ≡ i → put_back (whole ths sh (phase_of l (Showing f sv))) f (saved_of l sv) ≡ put_back (whole ths sh (phase_of l ph)) i (saved_of l sv)
-      put same = ap (λ (k : ℕ). put_back (whole ths sh (phase_of l ph)) k (saved_of l sv)) same

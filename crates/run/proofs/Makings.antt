@@ -1,41 +1,29 @@
 -- Making a run.
-use Rattle.std.proofs.Common.{◌≡◌, ℕ, zero, suc, ◌+◌, ◌<◌, ◌≤◌, Bool, true, false, cond, ◌&&◌, ltb, leb, List, [], ◌∷◌, ◌++◌, length, get_or, Ok, Err, Result, sym, refl, ap, ◌∙◌, add-one, arith}
-use Rattle.std.proofs.lemmas.List.{length_push}
+use Rattle.std.proofs.Common.{◌≡◌, ℕ, ◌<◌, ◌≤◌, Bool, true, false, cond, leb, List, [], ◌∷◌, length, get_or, Ok, Err, Result, sym, refl, ap, ◌∙◌, arith}
 use Rattle.std.proofs.lemmas.Bool.{le-leb, lt-leb, ltb-false, cond-true, cond-false}
+use Rattle.lines.specs.Scopes.{in_scope}
 use Rattle.stores.specs.declared.kept.StoreFault.{StoreFault}
 use Rattle.stores.specs.declared.kept.StoreFault.TheVariants.{Full}
 use Rattle.stores.specs.declared.message.Message.{Message}
-use Rattle.stores.specs.Memory.{add_answer, added}
+use Rattle.stores.specs.Memory.{add_answer}
 use Rattle.languages.specs.Behaviours.{Behaviour}
 use Rattle.rules.specs.declared.fault.StepFault.TheVariants.{Store}
-use Rattle.rules.specs.Rules.{went, refused, initial, initials, new_run, made}
-
-pub initials_length : (l : ℕ) → length (initials l) ≡ l
-initials_length zero = refl
-initials_length (suc l) = let h = initials_length l in let p = length_push (initials l) (initial l) in omega arith
-
-pub initials_more : (l : ℕ) → initials (l + 1) ≡ initials l ++ (initial l ∷ [])
-initials_more l = ap initials (add-one l)
+use Rattle.rules.specs.Rules.{went, refused, initials, new_run, made}
+use Rattle.rules.proofs.Lawfulness.{initials_length}
 
 -- the one fault of a store
 pub only_full : (f : StoreFault) → f ≡ Full
 only_full Full = refl
 
 pub refused_answer : (b : Bool) (e : StoreFault) → ◌≡◌ {A = Result Unit StoreFault} (cond b (Ok tt) (Err Full)) (Err e) → b ≡ false
-refused_answer true e h = let z : ◌≡◌ {A = ℕ} 0 1 = cc in absurd (omega arith)
+refused_answer true e h = cc
 refused_answer false e h = refl
 
 pub room_answer : (b : Bool) (u : Unit {0}) → ◌≡◌ {A = Result Unit StoreFault} (cond b (Ok tt) (Err Full)) (Ok u) → b ≡ true
 room_answer true u h = refl
-room_answer false u h = let z : ◌≡◌ {A = ℕ} 0 1 = cc in absurd (omega arith)
+room_answer false u h = cc
 
 module _ (capacity x : ℕ) (ms : List Message) (a : Result Unit StoreFault) (held : ms ≡ initials x) (asked : a ≡ add_answer capacity ms) where
-  -- one initial message more
-  pub fill_more : (ms' : List Message) (m : Message) (u : Unit {0}) → m ≡ initial x → a ≡ Ok u → ms' ≡ added capacity m ms → ms' ≡ initials (x + 1)
-  fill_more ms' m u em ea e =
-      e ∙ cond-true _ _ _ (room_answer _ u (sym asked ∙ ea)) ∙ ap (λ (n : Message). ms ++ (n ∷ [])) em ∙ ap (λ (ns : List Message). ns ++ (initial x ∷ [])) held
-      ∙ sym (initials_more x)
-
   -- the store is full too early
   pub fill_full : (l : ℕ) (e : StoreFault) → x < l → a ≡ Err e → leb l capacity ≡ false
   fill_full l e h ea =
@@ -47,9 +35,9 @@ pub fill_done : (capacity x l : ℕ) (ms : List Message) → ms ≡ initials x �
 fill_done capacity x l ms held e h = let n = ap length held ∙ initials_length x in le-leb l capacity (omega arith)
 
 pub not_both : (r : Result Unit StoreFault) (e : StoreFault) → r ≡ Err e → r ≡ Ok tt → ⊥
-not_both r e p q = let z : ◌≡◌ {A = ℕ} 0 1 = cc in omega arith
+not_both r e p q = cc
 
-module _ (bs : List Behaviour) (n l capacity : ℕ) (range : ((ltb 0 n && leb n 4) && (ltb 0 l && leb l 8)) ≡ true) where
+module _ (bs : List Behaviour) (n l capacity : ℕ) (range : in_scope n l ≡ true) where
   pub made_full : leb l capacity ≡ false → made bs n l capacity ≡ refused (Store Full)
   made_full h = cond-true _ _ _ range ∙ cond-false _ _ _ h
 

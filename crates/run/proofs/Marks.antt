@@ -1,39 +1,48 @@
--- One turn of a loop over the marks of owed messages.
-use Rattle.std.proofs.Common.{◌≡◌, ℕ, ◌+◌, ◌<◌, ◌≤◌, Bool, true, false, cond, not, ◌&&◌, ◌||◌, eqb, List, [], ◌∷◌, length, get_or, drop, Some, None, refl, ap, ◌∙◌}
-use Rattle.std.proofs.lemmas.List.{drop_more, drop_all, at_drop_more, at_drop_all}
+-- Owed messages, as they are found by their numbers and by the marks beside them.
+use Rattle.std.proofs.Common.{◌≡◌, ℕ, suc, ◌+◌, ◌≤◌, Bool, false, cond, ◌&&◌, ◌||◌, List, [], ◌∷◌, length, get_or, zip, Some, refl, ap, ◌∙◌, arith}
+use Rattle.std.specs.List.{range_with_len, find, list_any, position_from}
 use Rattle.stores.specs.declared.message.Message.{Message}
-use Rattle.stores.specs.Memory.{zero_message, ends_at}
-use Rattle.rules.specs.Threads.{none_owed, owes_at, find_owed_from}
+use Rattle.stores.specs.Memory.{zero_message}
 
-pub none_step : (bs : List Bool) (k : ℕ) → k < length bs → none_owed (drop k bs) ≡ (not (get_or bs k false) && none_owed (drop (k + 1) bs))
-none_step bs k h = at_drop_more none_owed bs k false h
+module _ (test : Message → Bool) where
+  -- message k is marked and passes the test
+  abbrev pub passes_at : List Bool → List Message → ℕ → Bool
+  passes_at bs ms k = get_or bs k false && test (get_or ms k zero_message)
 
-pub none_end : (bs : List Bool) (k : ℕ) → length bs ≤ k → none_owed (drop k bs) ≡ true
-none_end bs k h = at_drop_all none_owed bs k h
+  -- h is that, for the numbers from a on
+  abbrev pub Passes : (ℕ → Bool) → ℕ → List Bool → List Message → Type 0
+  Passes h a bs ms = (k : ℕ) → h (a + k) ≡ passes_at bs ms k
 
-module _ (bs : List Bool) (ms : List Message) (k : ℕ) (hb : k < length bs) (hm : k < length ms) where
-  pub find_step : (x t : ℕ) → find_owed_from k x t (drop k bs) (drop k ms)
-      ≡ cond (get_or bs k false && ends_at x t (get_or ms k zero_message)) (Some k) (find_owed_from (k + 1) x t (drop (k + 1) bs) (drop (k + 1) ms))
-  find_step x t =
-      ap (λ (l : List Bool). find_owed_from k x t l (drop k ms)) (drop_more bs k false hb)
-      ∙ ap (find_owed_from k x t (get_or bs k false ∷ drop (k + 1) bs)) (drop_more ms k zero_message hm)
+  first_passes : (h : ℕ → Bool) (a : ℕ) (b : Bool) (bs : List Bool) (m : Message) (ms : List Message) → Passes h a (b ∷ bs) (m ∷ ms) → h a ≡ (b && test m)
+  first_passes h a b bs m ms p = let e : a ≡ a + 0 = omega arith in ap h e ∙ p 0
 
-  pub owes_step : (x : ℕ) → owes_at x (drop k bs) (drop k ms)
-      ≡ ((get_or bs k false && eqb (get_or ms k zero_message).location x) || owes_at x (drop (k + 1) bs) (drop (k + 1) ms))
-  owes_step x =
-      ap (λ (l : List Bool). owes_at x l (drop k ms)) (drop_more bs k false hb)
-      ∙ ap (owes_at x (get_or bs k false ∷ drop (k + 1) bs)) (drop_more ms k zero_message hm)
+  rest_passes : (h : ℕ → Bool) (a : ℕ) (b : Bool) (bs : List Bool) (m : Message) (ms : List Message) → Passes h a (b ∷ bs) (m ∷ ms) → Passes h (a + 1) bs ms
+  rest_passes h a b bs m ms p k = let e : a + 1 + k ≡ a + suc k = omega arith in ap h e ∙ p (suc k)
 
-find_none : (k x t : ℕ) (bs : List Bool) → find_owed_from k x t bs [] ≡ None
-find_none k x t [] = refl
-find_none k x t (b ∷ bs) = refl
+  first_from : (h : ℕ → Bool) (a : ℕ) (bs : List Bool) (ms : List Message) → length ms ≤ length bs → Passes h a bs ms
+      → find h (range_with_len a (length ms)) ≡ position_from (λ p. p.0 && test p.1) a (zip bs ms)
+  first_from h a [] [] l p = refl
+  first_from h a (b ∷ bs) [] l p = refl
+  first_from h a [] (m ∷ ms) l p = absurd (omega arith)
+  first_from h a (b ∷ bs) (m ∷ ms) l p =
+      ap (λ (c : Bool). cond c (Some a) (find h (range_with_len (a + 1) (length ms)))) (first_passes h a b bs m ms p)
+      ∙ ap (cond (b && test m) (Some a)) (first_from h (a + 1) bs ms (omega arith) (rest_passes h a b bs m ms p))
 
-owes_none : (x : ℕ) (bs : List Bool) → owes_at x bs [] ≡ false
-owes_none x [] = refl
-owes_none x (b ∷ bs) = refl
+  some_from : (h : ℕ → Bool) (a : ℕ) (bs : List Bool) (ms : List Message) → length ms ≤ length bs → Passes h a bs ms
+      → list_any h (range_with_len a (length ms)) ≡ list_any (λ p. p.0 && test p.1) (zip bs ms)
+  some_from h a [] [] l p = refl
+  some_from h a (b ∷ bs) [] l p = refl
+  some_from h a [] (m ∷ ms) l p = absurd (omega arith)
+  some_from h a (b ∷ bs) (m ∷ ms) l p =
+      ap (λ (c : Bool). c || list_any h (range_with_len (a + 1) (length ms))) (first_passes h a b bs m ms p)
+      ∙ ap (λ (c : Bool). (b && test m) || c) (some_from h (a + 1) bs ms (omega arith) (rest_passes h a b bs m ms p))
 
-pub find_end : (bs : List Bool) (ms : List Message) (j k x t : ℕ) → length ms ≤ k → find_owed_from j x t bs (drop k ms) ≡ None
-find_end bs ms j k x t h = ap (find_owed_from j x t bs) (drop_all k ms h) ∙ find_none j x t bs
+  module _ (bs : List Bool) (ms : List Message) (few : length ms ≤ length bs) where
+    from_zero : Passes (passes_at bs ms) 0 bs ms
+    from_zero k = let e : 0 + k ≡ k = omega arith in ap (passes_at bs ms) e
 
-pub owes_end : (bs : List Bool) (ms : List Message) (k x : ℕ) → length ms ≤ k → owes_at x bs (drop k ms) ≡ false
-owes_end bs ms k x h = ap (owes_at x bs) (drop_all k ms h) ∙ owes_none x bs
+    pub first_marked : (n : ℕ) → n ≡ length ms → find (passes_at bs ms) (range_with_len 0 n) ≡ position_from (λ p. p.0 && test p.1) 0 (zip bs ms)
+    first_marked n e = ap (λ (k : ℕ). find (passes_at bs ms) (range_with_len 0 k)) e ∙ first_from (passes_at bs ms) 0 bs ms few from_zero
+
+    pub some_marked : (n : ℕ) → n ≡ length ms → list_any (passes_at bs ms) (range_with_len 0 n) ≡ list_any (λ p. p.0 && test p.1) (zip bs ms)
+    some_marked n e = ap (λ (k : ℕ). list_any (passes_at bs ms) (range_with_len 0 k)) e ∙ some_from (passes_at bs ms) 0 bs ms few from_zero

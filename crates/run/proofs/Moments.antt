@@ -1,12 +1,12 @@
 -- Lines in range, and the moments of lines.
-use Rattle.std.proofs.Common.{◌≡◌, ℕ, ◌<◌, ◌≤◌, true, cond, List, map, length, take, Result, sym, refl, ap, ◌∙◌, subst}
+use Rattle.std.proofs.Common.{◌≡◌, ℕ, ◌<◌, ◌≤◌, true, cond, List, map, length, take, Err, Result, sym, refl, ap, ◌∙◌, subst}
 use Rattle.std.proofs.lemmas.List.{length-map, length-take-le}
 use Rattle.std.proofs.lemmas.Bool.{ltb-true}
 use Rattle.lines.specs.declared.trace.Line.{Line}
 use Rattle.lines.specs.declared.trace.Line.TheVariants.{Turn as T, Next as N, Read as R, Write as W, Update as U, Promise as G, Keep as H, Show as X, EndTurn as E}
 use Rattle.stores.specs.declared.view.View.{View}
 use Rattle.rules.specs.declared.fault.StepFault.{StepFault}
-use Rattle.rules.specs.declared.fault.StepFault.TheVariants.{Range, StillOwing}
+use Rattle.rules.specs.declared.fault.StepFault.TheVariants.{Range, Moment, StillOwing}
 use Rattle.rules.specs.Models.{Run, Saved, Phase, between, turn, showing, thread_at, in_phase}
 use Rattle.rules.specs.Threads.{none_owed}
 use Rattle.rules.specs.Rules.{Tried, went, refused, Agrees, line_result, act_in, end_in}
@@ -18,9 +18,9 @@ pub line_by_range : (line : Line) (r : Run) → line_result line r ≡ cond (in_
 line_by_range (T i) r = refl
 line_by_range N r = refl
 line_by_range (R t) r = refl
-line_by_range (W f t) r = refl
-line_by_range (U f t) r = refl
-line_by_range (G x v f t) r = refl
+line_by_range (W s) r = refl
+line_by_range (U s) r = refl
+line_by_range (G x v s) r = refl
 line_by_range (H t) r = refl
 line_by_range X r = refl
 line_by_range E r = refl
@@ -28,28 +28,19 @@ line_by_range E r = refl
 pub count_is : {A B : Type 0} (f : A → B) (n : ℕ) (xs : List A) → n ≤ length xs → length (take n (map f xs)) ≡ n
 count_is f n xs h = length-take-le n (map f xs) (subst (λ (m : ℕ). n ≤ m) (sym (length-map xs f)) h)
 
-pub other_in_range : (line : Line) (r : Run) → ((i : ℕ) → line ≡ T i → ⊥) → ((x v f t : ℕ) → line ≡ G x v f t → ⊥) → in_range line r ≡ true
-other_in_range (T i) r h k = absurd (h i refl)
-other_in_range N r h k = refl
-other_in_range (R t) r h k = refl
-other_in_range (W f t) r h k = refl
-other_in_range (U f t) r h k = refl
-other_in_range (G x v f t) r h k = absurd (k x v f t refl)
-other_in_range (H t) r h k = refl
-other_in_range X r h k = refl
-other_in_range E r h k = refl
-
--- what is known of a line in range, at each line that names something
+-- a turn in range is of a thread of the run
 pub turn_in_range : (line : Line) (r : Run) (i : ℕ) → line ≡ T i → in_range line r ≡ true → i < length r.threads
 turn_in_range line r i e h = ltb-true i (length r.threads) (sym (ap (λ (l : Line). in_range l r) e) ∙ h)
-
-pub promise_in_range : (line : Line) (r : Run) (x v f t : ℕ) → line ≡ G x v f t → in_range line r ≡ true → x < r.locations
-promise_in_range line r x v f t e h = ltb-true x r.locations (sym (ap (λ (l : Line). in_range l r) e) ∙ h)
 
 -- a known line in a known phase
 pub moment_at : (line known : Line) (r : Run) (ph : Phase) (a : Result (Unit {0}) StepFault) (r' : Run) → line ≡ known → r.phase ≡ ph
     → Agrees (moment_in known r ph) r a r' → Agrees (moment_result line r) r a r'
 moment_at line known r ph a r' e p h = agrees_by r a r' (λ i. moment_in (e i) r (p i)) h
+
+-- a known line that a known phase refuses
+pub refused_at : (line known : Line) (r : Run) (ph : Phase) → line ≡ known → r.phase ≡ ph → moment_in known r ph ≡ refused Moment
+    → Agrees (moment_result line r) r (Err Moment) r
+refused_at line known r ph e p m = moment_at line known r ph (Err Moment) r e p (agrees_by r (Err Moment) r m (refl, refl))
 
 -- a line by which a thread acts
 pub act_moment : (line known : Line) (r : Run) (a : Result (Unit {0}) StepFault) (r' : Run) → line ≡ known

@@ -1,16 +1,15 @@
--- One turn of a loop over the threads.
-use Rattle.std.proofs.Common.{◌≡◌, ℕ, ◌+◌, ◌<◌, ◌≤◌, true, false, List, length, get_or, drop, Some, None, ◌∙◌}
-use Rattle.std.proofs.lemmas.List.{at_drop_more, at_drop_all}
-use Rattle.std.proofs.lemmas.Bool.{cond-true, cond-false}
-use Rattle.rules.specs.Models.{Thread, nobody}
-use Rattle.run.specs.Reports.{owing_from}
+-- The first of the threads that are there that owes a message.
+use Rattle.std.proofs.Common.{◌≡◌, ℕ, zero, suc, ◌+◌, Bool, cond, List, [], ◌∷◌, map, take, Some, None, Option, refl, ap}
+use Rattle.std.specs.Option.{MatchOption, IsSomeAnd}
+use Rattle.std.specs.List.{position_from}
 
-module _ (ts : List Thread) (i k : ℕ) (h : i < length ts) where
-  pub owing_here : get_or (get_or ts i nobody).owed k false ≡ true → owing_from i k (drop i ts) ≡ Some i
-  owing_here e = at_drop_more (owing_from i k) ts i nobody h ∙ cond-true _ _ _ e
+pub position_map : {A B : Type 0} (p : B → Bool) (f : A → B) (a n : ℕ) (xs : List A) → position_from (λ x. p (f x)) a (take n xs) ≡ position_from p a (take n (map f xs))
+position_map p f a zero xs = refl
+position_map p f a (suc n) [] = refl
+position_map p f a (suc n) (x ∷ xs) = ap (cond (p (f x)) (Some a)) (position_map p f (a + 1) n xs)
 
-  pub owing_more : get_or (get_or ts i nobody).owed k false ≡ false → owing_from i k (drop i ts) ≡ owing_from (i + 1) k (drop (i + 1) ts)
-  owing_more e = at_drop_more (owing_from i k) ts i nobody h ∙ cond-false _ _ _ e
-
-pub owing_past : (ts : List Thread) (i k : ℕ) → length ts ≤ i → owing_from i k (drop i ts) ≡ None
-owing_past ts i k h = at_drop_all (owing_from i k) ts i h
+-- a number as it was found
+pub mapped_same : (r s : Option ℕ) (P : ℕ → ℕ → Type 0) → MatchOption r (s ≡ None) (λ x. IsSomeAnd s (P x)) → ((x y : ℕ) → P x y → y ≡ x) → s ≡ r
+mapped_same None s P h k = h
+mapped_same (Some x) None P h k = absurd h
+mapped_same (Some x) (Some y) P h k = ap Some (k x y h)

@@ -1,19 +1,14 @@
 -- The order of a thread's views under reads and writes.
-use Rattle.std.proofs.Common.{◌≡◌, ℕ, zero, suc, ◌<◌, List, [], ◌∷◌, length, get_or, set, refl, ap, ◌∙◌}
-use Rattle.std.proofs.lemmas.List.{get_or_default}
+use Rattle.std.proofs.Common.{ℕ, zero, suc, List, [], ◌∷◌, get_or, set}
 use Rattle.languages.specs.declared.action.ReadMode.{ReadMode}
 use Rattle.languages.specs.declared.action.ReadMode.TheVariants.{Relaxed as RelaxedRead, Acquire}
 use Rattle.languages.specs.declared.action.WriteMode.{WriteMode}
 use Rattle.languages.specs.declared.action.WriteMode.TheVariants.{Relaxed, Release}
 use Rattle.stores.specs.declared.view.View.{View}
-use Rattle.stores.specs.Views.{zero_view, single, join, Below}
+use Rattle.stores.specs.Views.{zero_view, join, Below}
 use Rattle.stores.proofs.ViewLaws.{join_left, join_right, join_least, below_refl, below_trans}
-use Rattle.rules.specs.Threads.{read_cur, write_rel}
+use Rattle.rules.specs.Threads.{write_rel}
 use Rattle.run.specs.Orders.{AllBelow, acquired}
-
-pub read_cur_is : (o : ReadMode) (x t : ℕ) (m c : View) → acquired o (join c (single x t)) m ≡ read_cur o x t m c
-read_cur_is RelaxedRead x t m c = refl
-read_cur_is Acquire x t m c = refl
 
 -- a join with one view keeps the order
 pub join_keeps : (a b v : View) → Below a b → Below (join a v) (join b v)
@@ -48,10 +43,3 @@ all_below_set (a ∷ vs) zero v b h u zero = u
 all_below_set (a ∷ vs) zero v b h u (suc y) = h (suc y)
 all_below_set (a ∷ vs) (suc x) v b h u zero = h zero
 all_below_set (a ∷ vs) (suc x) v b h u (suc y) = all_below_set vs x v b (λ z. h (suc z)) u y
-
--- rel of the location after a write, as it was computed
-pub rel_written : (o : WriteMode) (rels : List View) (x : ℕ) (d one c j c₁ r : View) → x < length rels → j ≡ join (get_or rels x d) one → c₁ ≡ join c one
-    → r ≡ write_rel o j c₁ → r ≡ write_rel o (join (get_or rels x zero_view) one) (join c one)
-rel_written o rels x d one c j c₁ r lt ej ec er =
-    er ∙ ap (λ (v : View). write_rel o v c₁) (ej ∙ ap (λ (v : View). join v one) (get_or_default rels x d zero_view lt))
-    ∙ ap (write_rel o (join (get_or rels x zero_view) one)) ec

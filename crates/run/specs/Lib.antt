@@ -4,3 +4,4 @@ pub mod Models
 pub mod Moments
 pub mod Reports
 pub mod Plays
+pub mod Refusals

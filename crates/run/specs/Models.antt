@@ -4,13 +4,12 @@ use Rattle.languages.specs.declared.language.Language.{Ghosts as Language}
 use Rattle.stores.specs.declared.store.Store.{Ghosts as Store}
 use Rattle.stores.specs.declared.view.View.{View}
 use Rattle.rules.specs.declared.fault.StepFault.{StepFault}
-use Rattle.rules.specs.Rules.{Tried, went, refused}
+use Rattle.rules.specs.Rules.{Tried, went, refused, Agrees}
 use Rattle.rules.specs.Models as model
 use Rattle.rules.specs.Models.{between, turn, showing}
 use Rattle.run.specs.declared.parts.ThreadViews.{ThreadViews}
 use Rattle.run.specs.declared.parts.Closing.{Closing}
 use Rattle.run.specs.declared.parts.Print.{Print}
-use Rattle.run.specs.declared.parts.Log.{Log}
 use Rattle.run.specs.declared.state.Thread.{Thread}
 use Rattle.run.specs.declared.state.Shared.{Shared}
 use Rattle.run.specs.declared.state.Saved.{Saved}
@@ -28,8 +27,8 @@ abbrev pub print_in : Option Print → Option (ℕ × ℕ)
 print_in None = None
 print_in (Some p) = Some (print_of p)
 
-abbrev pub log_of : Log → List (ℕ × ℕ)
-log_of log = map print_of (take log.len log.prints)
+abbrev pub log_of : List Print → List (ℕ × ℕ)
+log_of prints = map print_of prints
 
 abbrev pub line_of : Option Closing → Option View
 line_of None = None
@@ -52,11 +51,15 @@ module _ {L S : Type 0} (l : Language L) (s : Store S) where
   part_of th sh =
       record { thread = thread_of l th; memory = s.held sh.store; capacity = s.capacity sh.store; sc = sh.sc; log = log_of sh.log }
 
+  -- what a call did to a thread and to what it shares, by a rule for them
+  abbrev pub PartAgrees : (model.Part → Tried model.Part) → Thread L → Shared S → Result (Unit {0}) StepFault → Thread L → Shared S → Type 0
+  PartAgrees rule th sh r th' sh' = Agrees (rule (part_of th sh)) (part_of th sh) r (part_of th' sh')
+
   abbrev pub run_of : Run L S → model.Run
   run_of run =
       record {
-        locations = run.locations;
-        threads = take run.count (map (thread_of l) run.threads);
+        locations = run.scope.locations;
+        threads = take run.scope.threads (map (thread_of l) run.threads);
         memory = s.held run.shared.store;
         capacity = s.capacity run.shared.store;
         sc = run.shared.sc;
@@ -68,3 +71,7 @@ module _ {L S : Type 0} (l : Language L) (s : Store S) where
   abbrev pub tried : Result (Run L S) StepFault → Tried model.Run
   tried (Ok run) = went (run_of run)
   tried (Err e) = refused e
+
+  -- what a call did to a run, by a rule for it
+  abbrev pub RunAgrees : (model.Run → Tried model.Run) → Run L S → Result (Unit {0}) StepFault → Run L S → Type 0
+  RunAgrees rule run r run' = Agrees (rule (run_of run)) (run_of run) r (run_of run')

@@ -10,9 +10,9 @@ abbrev pub in_range : Line → Run → Bool
 in_range (T i) r = nat_lt i (length r.threads)
 in_range N r = true
 in_range (R t) r = true
-in_range (W f t) r = true
-in_range (U f t) r = true
-in_range (G x v f t) r = nat_lt x r.locations
+in_range (W s) r = true
+in_range (U s) r = true
+in_range (G x v s) r = nat_lt x r.locations
 in_range (H t) r = true
 in_range X r = true
 in_range E r = true
@@ -22,9 +22,9 @@ abbrev pub moment_in : Line → Run → Phase → Tried Run
 moment_in (T i) r ph = begin_in r i ph
 moment_in N r ph = act_in r N ph
 moment_in (R t) r ph = act_in r (R t) ph
-moment_in (W f t) r ph = act_in r (W f t) ph
-moment_in (U f t) r ph = act_in r (U f t) ph
-moment_in (G x v f t) r ph = promise_in r x v f t ph
+moment_in (W s) r ph = act_in r (W s) ph
+moment_in (U s) r ph = act_in r (U s) ph
+moment_in (G x v s) r ph = promise_in r x v s ph
 moment_in (H t) r ph = act_in r (H t) ph
 moment_in X r ph = show_in r ph
 moment_in E r ph = end_in r ph

@@ -1,20 +1,21 @@
 // Reads, writes and updates of one thread.
-ghost use Rattle.std.specs.Prelude.{◌≡◌, ◌<◌, ◌≤◌, Some};
-ghost use Rattle.rules.specs.Rules.{Agrees, read_result, release_owes, span_refusal, write_refusal, write_result, update_found, update_result};
+ghost use Rattle.std.specs.Prelude.{◌≡◌, Some};
+ghost use Rattle.rules.specs.Rules.{read_result, release_owes, span_refusal, write_result, update_found, update_result};
 ghost use Rattle.rules.specs.Threads.{reads};
-ghost use Rattle.run.specs.Models.{part_of, line_of};
+ghost use Rattle.run.specs.Models.{part_of, PartAgrees, line_of};
+ghost use Rattle.run.specs.Refusals.{allowed};
 
 use crate::owed::message_at;
-use crate::parts::Closing;
+use crate::parts::{Closing, Turn};
 use crate::state::{Shared, Thread};
 use crate::steps::next_action;
 use languages::action::{Action, ReadMode, Taking, WriteMode};
 use languages::language::Language;
 use lines::End;
+use lines::span::Span;
 use rules::fault::StepFault;
 use stores::message::Message;
 use stores::store::Store;
-use stores::view::View;
 
 // the location and the mode with which an action can read
 fn reads(action: Action) -> Option<(u8, ReadMode)>
@@ -31,18 +32,17 @@ fn reads(action: Action) -> Option<(u8, ReadMode)>
 pub(crate) fn read<L: Language, S: Store>(
     thread: &mut Thread<L>,
     shared: &Shared<S>,
-    locations: u8,
+    turn: Turn,
     end: End,
 ) -> Result<(), StepFault>
-    requires { locations ≤ 8 }
-    ensures { Agrees (read_result locations end (part_of L.Language S.Store thread.old shared.now)) (part_of L.Language S.Store thread.old shared.now) result (part_of L.Language S.Store thread.new shared.now) }
+    ensures { PartAgrees L.Language S.Store (read_result turn.scope.locations end) thread.old shared.now result thread.new shared.now }
 {
-    let Some((location, mode)) = reads(next_action(&thread.state, locations)) else {
-        return Err(StepFault::Kind);
-    };
-    let Some(k) = shared.store.find(location, end) else {
-        return Err(StepFault::NoMessage);
-    };
+    let action = next_action(&thread.state, turn.scope);
+    let (location, mode) = reads(action).ok_or(StepFault::Kind)?;
+    let k = shared
+        .store
+        .find(location, end)
+        .ok_or(StepFault::NoMessage)?;
     if thread.views.seen(location) > end {
         return Err(StepFault::TooNew);
     }
@@ -53,19 +53,6 @@ pub(crate) fn read<L: Language, S: Store>(
     thread.views.read(mode, location, end, message.view);
     thread.state.go_on(message.value);
     Ok(())
-}
-
-// a message with the span (from, to]
-pub(crate) fn message(location: u8, from: End, to: End, value: u16, view: View) -> Message
-    ensures { result ≡ record { location = location; from = from; to = to; value = value; view = view } }
-{
-    Message {
-        location,
-        from,
-        to,
-        value,
-        view,
-    }
 }
 
 // a release, while the thread owes something at the location
@@ -83,73 +70,56 @@ fn release_owes<L: Language, S: Store>(
     }
 }
 
-// why the span (from, to] cannot be written
-pub(crate) fn span_refusal<S: Store>(
+// whether the span can be written, or why not
+pub(crate) fn check_span<S: Store>(
     store: &S,
     closing: Option<Closing>,
     location: u8,
-    from: End,
-    to: End,
-) -> Option<StepFault>
-    ensures { result ≡ span_refusal (line_of closing) location from to (S.Store.held store.now) }
+    span: Span,
+) -> Result<(), StepFault>
+    ensures { result ≡ allowed (span_refusal (line_of closing) location span (S.Store.held store.now)) }
 {
-    if from >= to || !store.is_free(location, from, to) {
-        return Some(StepFault::Span);
+    if span.from >= span.to || !store.is_free(location, span) {
+        return Err(StepFault::Span);
     }
     match closing {
-        Some(line) if !line.is_below(location, from) => Some(StepFault::ClosingLine),
-        _ => None,
+        Some(line) if !line.is_below(location, span.from) => Err(StepFault::ClosingLine),
+        _ => Ok(()),
     }
 }
 
-// why a message with that span cannot be written
-fn write_refusal<L: Language, S: Store>(
-    thread: &Thread<L>,
-    shared: &Shared<S>,
-    closing: Option<Closing>,
-    location: u8,
-    mode: WriteMode,
-    from: End,
-    to: End,
-) -> Option<StepFault>
-    ensures { result ≡ write_refusal (line_of closing) location mode from to (part_of L.Language S.Store thread.now shared.now) }
-{
-    if release_owes(thread, shared, mode, location) {
-        return Some(StepFault::Owing);
-    }
-    if thread.views.seen(location) >= to {
-        return Some(StepFault::TooNew);
-    }
-    span_refusal(&shared.store, closing, location, from, to)
-}
-
-// W f t: writes a message with the span (from, to]
+// W f t: writes a message with the span (f, t]
 pub(crate) fn write<L: Language, S: Store>(
     thread: &mut Thread<L>,
     shared: &mut Shared<S>,
-    locations: u8,
-    closing: Option<Closing>,
-    from: End,
-    to: End,
+    turn: Turn,
+    span: Span,
 ) -> Result<(), StepFault>
-    requires { locations ≤ 8 }
-    ensures { Agrees (write_result locations (line_of closing) from to (part_of L.Language S.Store thread.old shared.old)) (part_of L.Language S.Store thread.old shared.old) result (part_of L.Language S.Store thread.new shared.new) }
+    ensures { PartAgrees L.Language S.Store (write_result turn.scope.locations (line_of turn.closing) span) thread.old shared.old result thread.new shared.new }
 {
     let Action::Write {
         location,
         value,
         mode,
-    } = next_action(&thread.state, locations)
+    } = next_action(&thread.state, turn.scope)
     else {
         return Err(StepFault::Kind);
     };
-    if let Some(fault) = write_refusal(thread, shared, closing, location, mode, from, to) {
-        return Err(fault);
+    if release_owes(thread, shared, mode, location) {
+        return Err(StepFault::Owing);
     }
+    if thread.views.seen(location) >= span.to {
+        return Err(StepFault::TooNew);
+    }
+    check_span(&shared.store, turn.closing, location, span)?;
     let mut views = thread.views;
-    views.write(mode, location, to);
-    let view = views.released(location);
-    shared.store.add(message(location, from, to, value, view))?;
+    views.write(mode, location, span.to);
+    shared.store.add(Message {
+        location,
+        span,
+        value,
+        view: views.released(location),
+    })?;
     thread.views = views;
     thread.state.go_on(0);
     Ok(())
@@ -162,67 +132,62 @@ fn update_from<L: Language, S: Store>(
     closing: Option<Closing>,
     modes: (ReadMode, WriteMode),
     location: u8,
-    from: End,
-    to: End,
+    span: Span,
     k: usize,
 ) -> Result<(), StepFault>
-    requires { location < 8 }
-    ensures { Agrees (update_found (line_of closing) (part_of L.Language S.Store thread.old shared.old) modes.0 modes.1 location from to (Some k)) (part_of L.Language S.Store thread.old shared.old) result (part_of L.Language S.Store thread.new shared.new) }
+    ensures { PartAgrees L.Language S.Store (λ p. update_found (line_of closing) p modes.0 modes.1 location span (Some k)) thread.old shared.old result thread.new shared.new }
 {
-    if thread.views.seen(location) > from {
+    if thread.views.seen(location) > span.from {
         return Err(StepFault::TooNew);
     }
     let read = message_at(&shared.store, k);
     let Taking::Replaced { value } = thread.state.takes(read.value) else {
         return Err(StepFault::Value);
     };
-    if let Some(fault) = span_refusal(&shared.store, closing, location, from, to) {
-        return Err(fault);
-    }
+    check_span(&shared.store, closing, location, span)?;
     let mut views = thread.views;
-    views.read(modes.0, location, from, read.view);
-    views.write(modes.1, location, to);
-    let view = views.released(location).join(read.view);
-    shared.store.add(message(location, from, to, value, view))?;
+    views.read(modes.0, location, span.from, read.view);
+    views.write(modes.1, location, span.to);
+    shared.store.add(Message {
+        location,
+        span,
+        value,
+        view: views.released(location).join(read.view),
+    })?;
     thread.views = views;
     thread.state.go_on(read.value);
     Ok(())
 }
 
-// U f t: reads the message that ends at `from`, a value that is replaced, and writes one with the span (from, to]
+// U f t: reads the message that ends at f, a value that is replaced, and writes one with the span (f, t]
 pub(crate) fn update<L: Language, S: Store>(
     thread: &mut Thread<L>,
     shared: &mut Shared<S>,
-    locations: u8,
-    closing: Option<Closing>,
-    from: End,
-    to: End,
+    turn: Turn,
+    span: Span,
 ) -> Result<(), StepFault>
-    requires { locations ≤ 8 }
-    ensures { Agrees (update_result locations (line_of closing) from to (part_of L.Language S.Store thread.old shared.old)) (part_of L.Language S.Store thread.old shared.old) result (part_of L.Language S.Store thread.new shared.new) }
+    ensures { PartAgrees L.Language S.Store (update_result turn.scope.locations (line_of turn.closing) span) thread.old shared.old result thread.new shared.new }
 {
     let Action::Update {
         location,
         read,
         write,
-    } = next_action(&thread.state, locations)
+    } = next_action(&thread.state, turn.scope)
     else {
         return Err(StepFault::Kind);
     };
     if release_owes(thread, shared, write, location) {
         return Err(StepFault::Owing);
     }
-    let Some(k) = shared.store.find(location, from) else {
-        return Err(StepFault::NoMessage);
-    };
+    let found = shared.store.find(location, span.from);
+    let k = found.ok_or(StepFault::NoMessage)?;
     update_from(
         thread,
         shared,
-        closing,
+        turn.closing,
         (read, write),
         location,
-        from,
-        to,
+        span,
         k,
     )
 }

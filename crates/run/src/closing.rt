@@ -5,6 +5,7 @@ ghost use Rattle.rules.specs.Rules.{closing_line};
 
 use crate::parts::Closing;
 use lines::End;
+use std::array;
 use stores::store::Store;
 use stores::view::View;
 
@@ -13,10 +14,7 @@ impl Closing {
     pub(crate) fn of<S: Store>(store: &S) -> Closing
         ensures { result.ends ≡ closing_line (S.Store.held store.now) }
     {
-        let mut ends = [0; 8];
-        for x in 0..8u8 {
-            ends[x as usize] = store.greatest_end(x);
-        }
+        let ends = array::from_fn(|x| store.greatest_end(x as u8));
         Closing {
             ends: View { ends },
         }

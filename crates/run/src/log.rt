@@ -1,62 +1,67 @@
 // The log of prints.
-ghost use Rattle.std.specs.Prelude.{◌≡◌, ◌≤◌, [], ◌∷◌, ◌++◌, length, take, if◌then◌else◌, Ok, Err, nat_lt};
-ghost use Rattle.std.specs.List.{slice_get};
+ghost use Rattle.std.specs.Prelude.{◌≡◌, ◌≤◌, [], length, take, slice_get, if◌then◌else◌, nat_lt, Ok, Err};
+ghost use Rattle.bounded.specs.Bounds.{push_within};
 ghost use Rattle.rules.specs.declared.fault.StepFault.TheVariants.{LogFull};
-ghost use Rattle.run.specs.Models.{log_of, print_in};
 
-use crate::parts::{Log, Print};
+use crate::parts::Print;
+use bounded::Bounded;
 use rules::fault::StepFault;
+use std::marker::Model;
+
+// The prints, in order.
+#[derive(Drop)]
+pub struct Log {
+    prints: Bounded<Print, 64>,
+}
+
+impl Model for Log {
+    ghost use Rattle.std.specs.Prelude.{List};
+    ghost use Rattle.run.specs.declared.parts.Print.{Print};
+
+    ghost Value = { List Print };
+
+    ghost view = { λ l. l.prints };
+}
 
 impl Log {
     pub(crate) fn new() -> Log
-        ensures { log_of result ≡ [] }
+        ensures { result ≡ [] }
     {
+        let filler = Print {
+            thread: 0,
+            value: 0,
+        };
         Log {
-            prints: [Print {
-                thread: 0,
-                value: 0,
-            }; 64],
-            len: 0,
+            prints: Bounded::new(filler),
         }
     }
 
     // refused, with nothing changed, when there are 64 prints
-    pub(crate) fn add(&mut self, thread: u8, value: u16) -> Result<(), StepFault>
-        ensures value { result ≡ (if nat_lt (length (log_of self.old)) 64 then Ok tt else Err LogFull) }
-        ensures after { log_of self.new ≡ (if nat_lt (length (log_of self.old)) 64 then log_of self.old ++ ((thread, value) ∷ []) else log_of self.old) }
+    pub(crate) fn add(&mut self, print: Print) -> Result<(), StepFault>
+        ensures value { result ≡ (if nat_lt (length self.old) 64 then Ok tt else Err LogFull) }
+        ensures after { self.new ≡ push_within 64 self.old print }
     {
-        if self.len == 64 {
-            return Err(StepFault::LogFull);
-        }
-        self.prints[self.len] = Print { thread, value };
-        self.len += 1;
-        Ok(())
+        self.prints.push(print).map_err(|_| StepFault::LogFull)
     }
 
     pub(crate) fn len(&self) -> usize
-        ensures value { result ≡ length (log_of self.now) }
+        ensures value { result ≡ length self.now }
         ensures few { result ≤ 64 }
     {
-        self.len
+        self.prints.len()
     }
 
     // the k-th print from 0
     pub(crate) fn nth(&self, k: usize) -> Option<Print>
-        ensures { print_in result ≡ slice_get (log_of self.now) k }
+        ensures { result ≡ slice_get self.now k }
     {
-        if k < self.len {
-            Some(self.prints[k])
-        } else {
-            None
-        }
+        self.prints.get(k)
     }
 
     // keeps only the first n prints
     pub(crate) fn keep(&mut self, n: usize)
-        ensures { log_of self.new ≡ take n (log_of self.old) }
+        ensures { self.new ≡ take n self.old }
     {
-        if n < self.len {
-            self.len = n;
-        }
+        self.prints.truncate(n);
     }
 }

@@ -1,13 +1,14 @@
 // Making a run.
-ghost use Rattle.std.specs.Prelude.{◌≡◌, ◌&&◌, leb, map, if◌then◌else◌, Ok, Err, nat_le, nat_lt};
+ghost use Rattle.std.specs.Prelude.{◌≡◌, map, if◌then◌else◌, Ok, Err, nat_le};
 ghost use Rattle.stores.specs.declared.kept.StoreFault.TheVariants.{Full};
 ghost use Rattle.rules.specs.Rules.{initial, initials, made};
 ghost use Rattle.run.specs.Models.{tried};
 
-use crate::parts::Log;
+use crate::log::Log;
 use crate::state::{Phase, Run, Shared, Thread};
 use languages::language::Language;
-use lines::{MOST_LOCATIONS, MOST_THREADS};
+use lines::scope::Scope;
+use lines::span::Span;
 use rules::fault::StepFault;
 use stores::kept::StoreFault;
 use stores::message::Message;
@@ -20,8 +21,7 @@ fn initial(location: u8) -> Message
 {
     Message {
         location,
-        from: 0,
-        to: 0,
+        span: Span { from: 0, to: 0 },
         value: 0,
         view: View::zero(),
     }
@@ -29,7 +29,7 @@ fn initial(location: u8) -> Message
 
 // empties the store and adds the initial messages, by location
 fn fill<S: Store>(store: &mut S, locations: u8) -> Result<(), StoreFault>
-    ensures value { result ≡ (if leb locations (S.Store.capacity store.old) then Ok tt else Err Full) }
+    ensures value { result ≡ (if nat_le locations (S.Store.capacity store.old) then Ok tt else Err Full) }
     ensures after { result ≡ Ok tt → S.Store.held store.new ≡ initials locations }
     ensures same { S.Store.capacity store.new ≡ S.Store.capacity store.old }
 {
@@ -40,26 +40,16 @@ fn fill<S: Store>(store: &mut S, locations: u8) -> Result<(), StoreFault>
     Ok(())
 }
 
-// whether a run can have n threads and that many locations
-fn in_range(n: u8, locations: u8) -> bool
-    ensures { result ≡ ((nat_lt 0 n && nat_le n 4) && (nat_lt 0 locations && nat_le locations 8)) }
-{
-    (0 < n && n <= MOST_THREADS) && (0 < locations && locations <= MOST_LOCATIONS)
-}
-
 impl<L: Language, S: Store> Run<L, S> {
     // A run of the first n of the threads, on that many locations, in the store.
     pub fn new(threads: [L; 4], n: u8, locations: u8, store: S) -> Result<Run<L, S>, StepFault>
         ensures { tried L.Language S.Store result ≡ made (map L.Language.behaves threads) n locations (S.Store.capacity store) }
     {
-        if !in_range(n, locations) {
-            return Err(StepFault::Range);
-        }
+        let scope = Scope::new(n, locations).ok_or(StepFault::Range)?;
         let mut store = store;
         fill(&mut store, locations)?;
         Ok(Run {
-            locations,
-            count: n,
+            scope,
             threads: [
                 Thread::new(&threads[0]),
                 Thread::new(&threads[1]),

@@ -1,8 +1,9 @@
 // The parts of a run that know neither its language nor its store.
-ghost use Rattle.std.specs.Prelude.{◌≡◌, ◌≤◌, length};
+ghost use Rattle.std.specs.Prelude.{◌≡◌, length};
 ghost use Rattle.stores.specs.Views.{Below};
 ghost use Rattle.run.specs.Orders.{AllBelow};
 
+use lines::scope::Scope;
 use stores::view::View;
 
 // The views of a thread, with rel(x) ≤ cur ≤ acq at each place.
@@ -29,18 +30,17 @@ pub struct Closing {
     pub(crate) ends: View,
 }
 
+// Whose turn or showing it is, in a run of so many threads and locations; in a showing the closing line.
+#[derive(Clone, Copy)]
+pub(crate) struct Turn {
+    pub(crate) who: u8,
+    pub(crate) scope: Scope,
+    pub(crate) closing: Option<Closing>,
+}
+
 // A value that a thread printed.
 #[derive(Clone, Copy)]
 pub struct Print {
     pub thread: u8,
     pub value: u16,
-}
-
-// The prints, in order.
-#[derive(Drop)]
-pub struct Log {
-    pub(crate) prints: [Print; 64],
-    pub(crate) len: usize,
-    ghost fits: { len ≤ 64 },
-    ghost whole: { length prints ≡ 64 },
 }

@@ -1,7 +1,7 @@
 // A run, line by line.
 ghost use Rattle.std.specs.Prelude.{◌≡◌, true, map};
 ghost use Rattle.rules.specs.Rules.{Agrees, act_in, line_result, made};
-ghost use Rattle.run.specs.Models.{run_of, tried};
+ghost use Rattle.run.specs.Models.{run_of, RunAgrees, tried};
 ghost use Rattle.run.specs.Plays.{plays, Obeys};
 ghost use Rattle.run.specs.Moments.{in_range, moment_result};
 
@@ -17,31 +17,31 @@ impl<L: Language, S: Store> Run<L, S> {
         ensures { result ≡ in_range line (run_of L.Language S.Store self.now) }
     {
         match line {
-            Line::Turn { thread } => thread < self.count,
-            Line::Promise { location, .. } => location < self.locations,
+            Line::Turn { thread } => thread < self.scope.threads(),
+            Line::Promise { location, .. } => location < self.scope.locations(),
             _ => true,
         }
     }
 
     // N, R, W, U or H of the thread whose turn or showing it is
     fn step_of_thread(&mut self, line: Line) -> Result<(), StepFault>
-        ensures { Agrees (act_in (run_of L.Language S.Store self.old) line (run_of L.Language S.Store self.old).phase) (run_of L.Language S.Store self.old) result (run_of L.Language S.Store self.new) }
+        ensures { RunAgrees L.Language S.Store (λ r. act_in r line r.phase) self.old result self.new }
     {
         match &self.phase {
             Phase::Between => Err(StepFault::Moment),
-            &Phase::Turn(i) => self.act(i, None, line),
-            Phase::Showing(i, saved) => {
-                let i = *i;
+            Phase::Turn(_) => self.act(None, line),
+            Phase::Showing(_, saved) => {
                 let closing = saved.closing;
-                self.act_showing(i, closing, line)
+                self.act_showing(closing, line)
             }
         }
     }
 
     // a line in range: the line and the phase together decide whether this is its moment
+    // Each pair is an arm of its own: where arms are joined, the proof does not learn which line and phase it is.
     fn at_moment(&mut self, line: Line) -> Result<(), StepFault>
         requires { in_range line (run_of L.Language S.Store self.old) ≡ true }
-        ensures { Agrees (moment_result line (run_of L.Language S.Store self.old)) (run_of L.Language S.Store self.old) result (run_of L.Language S.Store self.new) }
+        ensures { RunAgrees L.Language S.Store (moment_result line) self.old result self.new }
     {
         match (line, &self.phase) {
             (Line::Turn { thread }, Phase::Between) => self.begin(thread),
@@ -49,14 +49,13 @@ impl<L: Language, S: Store> Run<L, S> {
                 Line::Promise {
                     location,
                     value,
-                    from,
-                    to,
+                    span,
                 },
-                &Phase::Turn(i),
-            ) => self.promise(i, location, value, from, to),
-            (Line::Show, &Phase::Turn(i)) => self.show(i),
-            (Line::EndTurn, &Phase::Turn(i)) => self.end(i),
-            (Line::EndTurn, &Phase::Showing(i, _)) => self.end(i),
+                Phase::Turn(_),
+            ) => self.promise(location, value, span),
+            (Line::Show, Phase::Turn(_)) => self.show(),
+            (Line::EndTurn, Phase::Turn(_)) => self.end(),
+            (Line::EndTurn, Phase::Showing(..)) => self.end(),
             (Line::Next, _) => self.step_of_thread(line),
             (Line::Read { .. }, _) => self.step_of_thread(line),
             (Line::Write { .. }, _) => self.step_of_thread(line),

@@ -1,16 +1,18 @@
 // Promises of one thread, made and kept.
-ghost use Rattle.std.specs.Prelude.{◌<◌, ◌≤◌};
-ghost use Rattle.rules.specs.Rules.{Agrees, promise_result, keep_result};
-ghost use Rattle.run.specs.Models.{part_of};
+ghost use Rattle.rules.specs.Rules.{promise_result, keep_result};
+ghost use Rattle.run.specs.Models.{PartAgrees};
 
-use crate::accesses::{message, span_refusal};
+use crate::accesses::check_span;
 use crate::owed::message_at;
+use crate::parts::Turn;
 use crate::state::{Shared, Thread};
 use crate::steps::next_action;
 use languages::action::{Action, WriteMode};
 use languages::language::Language;
 use lines::End;
+use lines::span::Span;
 use rules::fault::StepFault;
+use stores::message::Message;
 use stores::store::Store;
 use stores::view::View;
 
@@ -20,25 +22,23 @@ pub(crate) fn promise<L: Language, S: Store>(
     shared: &mut Shared<S>,
     location: u8,
     value: u16,
-    from: End,
-    to: End,
+    span: Span,
 ) -> Result<(), StepFault>
-    requires { location < 8 }
-    ensures { Agrees (promise_result location value from to (part_of L.Language S.Store thread.old shared.old)) (part_of L.Language S.Store thread.old shared.old) result (part_of L.Language S.Store thread.new shared.new) }
+    ensures { PartAgrees L.Language S.Store (promise_result location value span) thread.old shared.old result thread.new shared.new }
 {
-    if thread.views.seen(location) >= to {
+    if thread.views.seen(location) >= span.to {
         return Err(StepFault::TooNew);
     }
-    if let Some(fault) = span_refusal(&shared.store, None, location, from, to) {
-        return Err(fault);
-    }
+    check_span(&shared.store, None, location, span)?;
     let k = shared.store.len();
-    let view = thread
-        .views
-        .released(location)
-        .join(View::single(location, to));
-    shared.store.add(message(location, from, to, value, view))?;
-    thread.owed.owe(k);
+    let one = View::single(location, span.to);
+    shared.store.add(Message {
+        location,
+        span,
+        value,
+        view: thread.views.released(location).join(one),
+    })?;
+    thread.owed.set(k, true);
     Ok(())
 }
 
@@ -46,23 +46,21 @@ pub(crate) fn promise<L: Language, S: Store>(
 pub(crate) fn keep<L: Language, S: Store>(
     thread: &mut Thread<L>,
     shared: &Shared<S>,
-    locations: u8,
+    turn: Turn,
     end: End,
 ) -> Result<(), StepFault>
-    requires { locations ≤ 8 }
-    ensures { Agrees (keep_result locations end (part_of L.Language S.Store thread.old shared.now)) (part_of L.Language S.Store thread.old shared.now) result (part_of L.Language S.Store thread.new shared.now) }
+    ensures { PartAgrees L.Language S.Store (keep_result turn.scope.locations end) thread.old shared.now result thread.new shared.now }
 {
     let Action::Write {
         location,
         value,
         mode: WriteMode::Relaxed,
-    } = next_action(&thread.state, locations)
+    } = next_action(&thread.state, turn.scope)
     else {
         return Err(StepFault::Kind);
     };
-    let Some(k) = thread.owed.find(&shared.store, location, end) else {
-        return Err(StepFault::NoMessage);
-    };
+    let found = thread.owed.find(&shared.store, location, end);
+    let k = found.ok_or(StepFault::NoMessage)?;
     if thread.views.seen(location) >= end {
         return Err(StepFault::TooNew);
     }
@@ -70,7 +68,7 @@ pub(crate) fn keep<L: Language, S: Store>(
         return Err(StepFault::Value);
     }
     thread.views.write(WriteMode::Relaxed, location, end);
-    thread.owed.keep(k);
+    thread.owed.set(k, false);
     thread.state.go_on(0);
     Ok(())
 }

@@ -1,5 +1,5 @@
 // What a report asks of a run.
-ghost use Rattle.std.specs.Prelude.{◌≡◌, ◌<◌, ◌≤◌, false, length, IfSome, slice_index_or};
+ghost use Rattle.std.specs.Prelude.{◌≡◌, ◌<◌, ◌≤◌, length, IfSome};
 ghost use Rattle.std.specs.List.{slice_get as place};
 ghost use Rattle.stores.specs.Memory.{nth};
 ghost use Rattle.stores.specs.Views.{at};
@@ -19,14 +19,14 @@ impl<L: Language, S: Store> Run<L, S> {
         ensures value { result ≡ length (run_of L.Language S.Store self.now).threads }
         ensures few { result ≤ 4 }
     {
-        self.count
+        self.scope.threads()
     }
 
     pub fn location_count(&self) -> u8
         ensures value { result ≡ (run_of L.Language S.Store self.now).locations }
         ensures few { result ≤ 8 }
     {
-        self.locations
+        self.scope.locations()
     }
 
     pub fn message_count(&self) -> usize
@@ -48,27 +48,16 @@ impl<L: Language, S: Store> Run<L, S> {
         ensures value { result ≡ owing_thread k (run_of L.Language S.Store self.now).threads }
         ensures few { IfSome result (λ i. i < 4) }
     {
-        for i in 0..self.count {
-            if self.owes(i, k) {
-                return Some(i);
-            }
-        }
-        None
-    }
-
-    // whether thread i owes the k-th message
-    fn owes(&self, i: u8, k: usize) -> bool
-        requires { i < self.now.count }
-        ensures { result ≡ slice_index_or (thread_at (run_of L.Language S.Store self.now) i).owed k false }
-    {
-        self.threads[i as usize].owed.is_owed(k)
+        let threads = &self.threads[..self.scope.threads() as usize];
+        let owing = threads.iter().position(|thread| thread.owed.is_owed(k));
+        owing.map(|i| i as u8)
     }
 
     // the end of a thread's cur at a location, 0 where there is no such thread or location
     pub fn seen(&self, thread: u8, location: u8) -> End
         ensures { result ≡ at (thread_at (run_of L.Language S.Store self.now) thread).views.cur location }
     {
-        if thread < self.count {
+        if thread < self.scope.threads() {
             self.threads[thread as usize].views.seen(location)
         } else {
             0
@@ -92,10 +81,6 @@ impl<L: Language, S: Store> Run<L, S> {
     pub fn is_between(&self) -> bool
         ensures { result ≡ is_between (run_of L.Language S.Store self.now).phase }
     {
-        match self.phase {
-            Phase::Between => true,
-            Phase::Turn(_) => false,
-            Phase::Showing(..) => false,
-        }
+        matches!(self.phase, Phase::Between)
     }
 }

@@ -1,8 +1,10 @@
 // What a run holds.
-ghost use Rattle.std.specs.Prelude.{◌≡◌, ◌<◌, ◌≤◌, length};
+ghost use Rattle.std.specs.Prelude.{◌≡◌, ◌<◌, length};
 ghost use Rattle.run.specs.Turns.{whose};
 
-use crate::parts::{Closing, Log, Owed, ThreadViews};
+use crate::log::Log;
+use crate::parts::{Closing, Owed, ThreadViews};
+use lines::scope::Scope;
 use stores::view::View;
 
 // Copied with its language: a run of threads that are `Copy` can be let go in generic code.
@@ -38,16 +40,13 @@ pub enum Phase<L> {
     Showing(u8, Saved<L>),
 }
 
-// A run of the first `count` of the threads.
+// A run of the first of the threads, as many as its scope says.
 #[derive(Drop)]
 pub struct Run<L, S> {
-    pub(crate) locations: u8,
-    pub(crate) count: u8,
+    pub(crate) scope: Scope,
     pub(crate) threads: [Thread<L>; 4],
     pub(crate) shared: Shared<S>,
     pub(crate) phase: Phase<L>,
-    ghost few_locations: { locations ≤ 8 },
-    ghost few_threads: { count ≤ 4 },
     ghost whole: { length threads ≡ 4 },
-    ghost turn_of: { whose phase < count },
+    ghost turn_of: { whose phase < scope.threads },
 }

@@ -19,6 +19,7 @@ impl<L: Language> Thread<L> {
         }
     }
 
+    // its state is copied by the language: a bound `Copy` would ask more of it
     pub(crate) fn copied(&self) -> Thread<L>
         ensures { thread_of L.Language result ≡ thread_of L.Language self.now }
     {

@@ -1,43 +1,41 @@
 // The lines of a turn and of a showing.
-ghost use Rattle.std.specs.Prelude.{◌≡◌, ◌<◌, ◌≤◌, if◌then◌else◌, Some};
+ghost use Rattle.std.specs.Prelude.{◌≡◌, ◌<◌, if◌then◌else◌, Some};
 ghost use Rattle.rules.specs.declared.fault.StepFault.TheVariants.{Moment, StillOwing};
 ghost use Rattle.rules.specs.Models.{between, turn, thread_at, part_at, in_phase};
 ghost use Rattle.rules.specs.Threads.{none_owed};
-ghost use Rattle.rules.specs.Rules.{Agrees, went, refused, lifted, act_result, promise_result, show_in, put_back};
+ghost use Rattle.rules.specs.Rules.{went, refused, lifted, act_result, promise_result, show_in, put_back};
 ghost use Rattle.rules.specs.Histories.{undone};
-ghost use Rattle.run.specs.Models.{part_of, run_of, line_of, saved_of};
+ghost use Rattle.run.specs.Models.{PartAgrees, run_of, RunAgrees, line_of, saved_of};
 ghost use Rattle.run.specs.Turns.{whose};
 
 use crate::accesses::{read, update, write};
-use crate::parts::Closing;
+use crate::parts::{Closing, Turn};
 use crate::promises::{keep, promise};
 use crate::state::{Phase, Run, Saved, Shared, Thread};
 use crate::steps::next;
 use languages::language::Language;
-use lines::End;
+use lines::span::Span;
 use lines::trace::Line;
 use rules::fault::StepFault;
 use std::mem;
 use stores::store::Store;
 
 // a line by which the thread whose turn it is acts
+// Thread and shared stay two borrows of one run: a struct of both would be made only to be taken apart.
 fn act<L: Language, S: Store>(
     thread: &mut Thread<L>,
     shared: &mut Shared<S>,
-    locations: u8,
-    who: u8,
-    closing: Option<Closing>,
+    turn: Turn,
     line: Line,
 ) -> Result<(), StepFault>
-    requires { locations ≤ 8 }
-    ensures { Agrees (act_result locations who (line_of closing) line (part_of L.Language S.Store thread.old shared.old)) (part_of L.Language S.Store thread.old shared.old) result (part_of L.Language S.Store thread.new shared.new) }
+    ensures { PartAgrees L.Language S.Store (act_result turn.scope.locations turn.who (line_of turn.closing) line) thread.old shared.old result thread.new shared.new }
 {
     match line {
-        Line::Next => next(thread, shared, locations, who),
-        Line::Read { end } => read(thread, shared, locations, end),
-        Line::Write { from, to } => write(thread, shared, locations, closing, from, to),
-        Line::Update { from, to } => update(thread, shared, locations, closing, from, to),
-        Line::Keep { end } => keep(thread, shared, locations, end),
+        Line::Next => next(thread, shared, turn),
+        Line::Read { end } => read(thread, shared, turn, end),
+        Line::Write { span } => write(thread, shared, turn, span),
+        Line::Update { span } => update(thread, shared, turn, span),
+        Line::Keep { end } => keep(thread, shared, turn, end),
         Line::Turn { .. } | Line::Promise { .. } | Line::Show | Line::EndTurn => Err(
             StepFault::Moment,
         ),
@@ -45,90 +43,83 @@ fn act<L: Language, S: Store>(
 }
 
 impl<L: Language, S: Store> Run<L, S> {
-    // whether thread i owes nothing
-    fn owes_none(&self, i: u8) -> bool
-        requires { i < self.now.count }
-        ensures { result ≡ none_owed (thread_at (run_of L.Language S.Store self.now) i).owed }
+    // the thread whose turn or showing it is, 0 between turns
+    fn whose(&self) -> u8
+        ensures value { result ≡ whose self.now.phase }
+        ensures there { result < self.now.scope.threads }
     {
-        self.threads[i as usize].owed.none()
+        match &self.phase {
+            Phase::Between => 0,
+            Phase::Turn(i) | Phase::Showing(i, _) => *i,
+        }
+    }
+
+    // whether that thread owes nothing
+    fn owes_none(&self) -> bool
+        ensures { result ≡ none_owed (thread_at (run_of L.Language S.Store self.now) (whose self.now.phase)).owed }
+    {
+        self.threads[self.whose() as usize].owed.none()
     }
 
     // T i
+    // The thread is one of this run's: its own number of threads bounds it, and no type can say which run that is.
     pub(crate) fn begin(&mut self, i: u8) -> Result<(), StepFault>
-        requires { i < self.old.count }
-        ensures { Agrees (went (in_phase (run_of L.Language S.Store self.old) (turn i))) (run_of L.Language S.Store self.old) result (run_of L.Language S.Store self.new) }
+        requires { i < self.old.scope.threads }
+        ensures { RunAgrees L.Language S.Store (λ r. went (in_phase r (turn i))) self.old result self.new }
     {
         self.phase = Phase::Turn(i);
         Ok(())
     }
 
-    // N, R, W, U and H of thread i
-    pub(crate) fn act(
-        &mut self,
-        i: u8,
-        closing: Option<Closing>,
-        line: Line,
-    ) -> Result<(), StepFault>
-        requires { i < self.old.count }
-        ensures { Agrees (lifted (run_of L.Language S.Store self.old) i (act_result self.old.locations i (line_of closing) line (part_at (run_of L.Language S.Store self.old) i))) (run_of L.Language S.Store self.old) result (run_of L.Language S.Store self.new) }
+    // N, R, W, U and H of that thread
+    pub(crate) fn act(&mut self, closing: Option<Closing>, line: Line) -> Result<(), StepFault>
+        ensures { let i = whose self.old.phase in RunAgrees L.Language S.Store (λ r. lifted r i (act_result r.locations i (line_of closing) line (part_at r i))) self.old result self.new }
     {
-        act(
-            &mut self.threads[i as usize],
-            &mut self.shared,
-            self.locations,
-            i,
+        let turn = Turn {
+            who: self.whose(),
+            scope: self.scope,
             closing,
+        };
+        act(
+            &mut self.threads[turn.who as usize],
+            &mut self.shared,
+            turn,
             line,
         )
     }
 
     // the same in a showing: once nothing is owed, none of these lines may follow
-    pub(crate) fn act_showing(
-        &mut self,
-        i: u8,
-        closing: Closing,
-        line: Line,
-    ) -> Result<(), StepFault>
-        requires { i < self.old.count }
-        ensures { Agrees (if none_owed (thread_at (run_of L.Language S.Store self.old) i).owed then refused Moment else lifted (run_of L.Language S.Store self.old) i (act_result self.old.locations i (Some closing.ends) line (part_at (run_of L.Language S.Store self.old) i))) (run_of L.Language S.Store self.old) result (run_of L.Language S.Store self.new) }
+    pub(crate) fn act_showing(&mut self, closing: Closing, line: Line) -> Result<(), StepFault>
+        ensures { let i = whose self.old.phase in RunAgrees L.Language S.Store (λ r. if none_owed (thread_at r i).owed then refused Moment else lifted r i (act_result r.locations i (Some closing.ends) line (part_at r i))) self.old result self.new }
     {
-        if self.owes_none(i) {
+        if self.owes_none() {
             return Err(StepFault::Moment);
         }
-        self.act(i, Some(closing), line)
+        self.act(Some(closing), line)
     }
 
-    // G x v f t of thread i
-    pub(crate) fn promise(
-        &mut self,
-        i: u8,
-        location: u8,
-        value: u16,
-        from: End,
-        to: End,
-    ) -> Result<(), StepFault>
-        requires thread { i < self.old.count }
-        requires place { location < 8 }
-        ensures { Agrees (lifted (run_of L.Language S.Store self.old) i (promise_result location value from to (part_at (run_of L.Language S.Store self.old) i))) (run_of L.Language S.Store self.old) result (run_of L.Language S.Store self.new) }
+    // G x v f t of that thread
+    pub(crate) fn promise(&mut self, location: u8, value: u16, span: Span) -> Result<(), StepFault>
+        ensures { let i = whose self.old.phase in RunAgrees L.Language S.Store (λ r. lifted r i (promise_result location value span (part_at r i))) self.old result self.new }
     {
+        let i = self.whose();
         promise(
             &mut self.threads[i as usize],
             &mut self.shared,
             location,
             value,
-            from,
-            to,
+            span,
         )
     }
 
-    // X in the turn of thread i
-    pub(crate) fn show(&mut self, i: u8) -> Result<(), StepFault>
-        requires { i < self.old.count }
-        ensures { Agrees (show_in (run_of L.Language S.Store self.old) (turn i)) (run_of L.Language S.Store self.old) result (run_of L.Language S.Store self.new) }
+    // X in the turn of that thread
+    pub(crate) fn show(&mut self) -> Result<(), StepFault>
+        ensures { let i = whose self.old.phase in RunAgrees L.Language S.Store (λ r. show_in r (turn i)) self.old result self.new }
     {
-        if self.owes_none(i) {
+        if self.owes_none() {
             return Err(StepFault::Moment);
         }
+        let i = self.whose();
         let saved = Saved {
             thread: self.threads[i as usize].copied(),
             sc: self.shared.sc,
@@ -141,8 +132,9 @@ impl<L: Language, S: Store> Run<L, S> {
     }
 
     // what a showing of thread i saved
+    // The thread is one of this run's: its own number of threads bounds it, and no type can say which run that is.
     fn put_back(&mut self, i: u8, saved: Saved<L>)
-        requires { i < self.old.count }
+        requires { i < self.old.scope.threads }
         ensures { (run_of L.Language S.Store self.new) ≡ in_phase (put_back (run_of L.Language S.Store self.old) i (saved_of L.Language saved)) (run_of L.Language S.Store self.old).phase }
     {
         let Saved {
@@ -158,17 +150,16 @@ impl<L: Language, S: Store> Run<L, S> {
         self.shared.log.keep(prints);
     }
 
-    // E in the turn or the showing of thread i
-    pub(crate) fn end(&mut self, i: u8) -> Result<(), StepFault>
-        requires { whose self.old.phase ≡ i }
-        ensures { Agrees (if none_owed (thread_at (run_of L.Language S.Store self.old) i).owed then went (in_phase (undone (run_of L.Language S.Store self.old)) between) else refused StillOwing) (run_of L.Language S.Store self.old) result (run_of L.Language S.Store self.new) }
+    // E in the turn or the showing of that thread
+    pub(crate) fn end(&mut self) -> Result<(), StepFault>
+        ensures { let i = whose self.old.phase in RunAgrees L.Language S.Store (λ r. if none_owed (thread_at r i).owed then went (in_phase (undone r) between) else refused StillOwing) self.old result self.new }
     {
-        if !self.owes_none(i) {
+        if !self.owes_none() {
             return Err(StepFault::StillOwing);
         }
         match mem::replace(&mut self.phase, Phase::Between) {
             Phase::Between | Phase::Turn(_) => {}
-            Phase::Showing(_, saved) => self.put_back(i, saved),
+            Phase::Showing(i, saved) => self.put_back(i, saved),
         }
         Ok(())
     }

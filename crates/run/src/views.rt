@@ -1,8 +1,8 @@
 // How the views of a thread change.
-ghost use Rattle.std.specs.Prelude.{◌≡◌, ◌<◌};
+ghost use Rattle.std.specs.Prelude.{◌≡◌, slice_set};
 ghost use Rattle.stores.specs.Views.{at};
 ghost use Rattle.rules.specs.Models.{fresh_views};
-ghost use Rattle.rules.specs.Threads.{rel_at, read_views, write_rel, write_views, acquire_views, release_views, both_views, all_views};
+ghost use Rattle.rules.specs.Threads.{rel_at, read_views, write_rel, write_views, acquire_views, release_views, all_views};
 ghost use Rattle.run.specs.Models.{views_of};
 ghost use Rattle.run.specs.Orders.{acquired};
 
@@ -11,6 +11,7 @@ use languages::action::{ReadMode, WriteMode};
 use lines::End;
 use stores::view::View;
 
+// Acquire and release are modes of two types: one function for both would first make a flag of each.
 // an acquire takes in the view of the message read
 fn read_into(mode: ReadMode, cur: View, view: View) -> View
     ensures { result ≡ acquired mode cur view }
@@ -28,6 +29,15 @@ fn released_into(mode: WriteMode, rel: View, cur: View) -> View
     match mode {
         WriteMode::Relaxed => rel,
         WriteMode::Release => rel.join(cur),
+    }
+}
+
+// nothing past the last location
+fn put(rel: &mut [View; 8], location: u8, view: View)
+    ensures { rel.new ≡ slice_set rel.old location view }
+{
+    if location < 8 {
+        rel[location as usize] = view;
     }
 }
 
@@ -50,12 +60,12 @@ impl ThreadViews {
         self.cur.at(location)
     }
 
-    // rel of a location
+    // rel of a location, the zero view past the last
     pub(crate) fn released(&self, location: u8) -> View
-        requires { location < 8 }
         ensures { result ≡ rel_at (views_of self.now) location }
     {
-        self.rel[location as usize]
+        let rel = self.rel.get(location as usize);
+        rel.copied().unwrap_or(View::zero())
     }
 
     // after a read of the message of the location that ends at `end`, with its view
@@ -71,16 +81,15 @@ impl ThreadViews {
 
     // after a write of a message of the location that ends at `end`
     pub(crate) fn write(&mut self, mode: WriteMode, location: u8, end: End)
-        requires { location < 8 }
         ensures { views_of self.new ≡ write_views mode location end (views_of self.old) }
     {
         let one = View::single(location, end);
         let cur = self.cur.join(one);
         let acq = self.acq.join(one);
-        let rel = released_into(mode, self.rel[location as usize].join(one), cur);
-        self.rel[location as usize] = rel;
-        self.cur = cur;
-        self.acq = acq;
+        let mut rel = self.rel;
+        let released = released_into(mode, self.released(location).join(one), cur);
+        put(&mut rel, location, released);
+        *self = ThreadViews { cur, acq, rel };
     }
 
     // cur becomes acq
@@ -97,15 +106,6 @@ impl ThreadViews {
     {
         let cur = self.cur;
         self.rel = [cur; 8];
-    }
-
-    // cur and every rel become acq
-    pub(crate) fn release_acquired(&mut self)
-        ensures { views_of self.new ≡ both_views (views_of self.old) }
-    {
-        let acq = self.acq;
-        self.cur = acq;
-        self.rel = [acq; 8];
     }
 
     // all become one view

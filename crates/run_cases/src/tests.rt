@@ -11,6 +11,8 @@ use languages::register_thread::RegisterThread;
 use languages::registers::RegisterLine;
 use languages::strip_thread::StripThread;
 use languages::strips::StripLine;
+use lines::End;
+use lines::span::Span;
 use lines::trace::Line;
 use rules::fault::StepFault;
 use run::play::play;
@@ -25,8 +27,7 @@ const TURN: Line = Line::Turn { thread: 0 };
 const PROMISE: Line = Line::Promise {
     location: 1,
     value: 1,
-    from: 0,
-    to: 1,
+    span: Span { from: 0, to: 1 },
 };
 
 const STORE: StripLine = StripLine::Store {
@@ -40,6 +41,18 @@ const LOAD: StripLine = StripLine::Read {
     value: 0,
     mode: ReadMode::Relaxed,
 };
+
+fn write(from: End, to: End) -> Line {
+    Line::Write {
+        span: Span { from, to },
+    }
+}
+
+fn update(from: End, to: End) -> Line {
+    Line::Update {
+        span: Span { from, to },
+    }
+}
 
 // the number of the first refusal, 0 where every line is accepted
 fn refusal<L: Language, S: Store>(run: &mut Run<L, S>, lines: &[Line]) -> u8 {
@@ -74,7 +87,7 @@ fn alone(program: &[StripLine], lines: &[Line]) -> u8 {
 fn refused_before_the_step(rt: HostRuntime) {
     assert_eq!(rt; alone(&[LOAD], &[Line::Read { end: 0 }]), 7);
     assert_eq!(rt; alone(&[LOAD], &[TURN, Line::Show]), 7);
-    assert_eq!(rt; alone(&[LOAD], &[TURN, Line::Write { from: 0, to: 1 }]), 8);
+    assert_eq!(rt; alone(&[LOAD], &[TURN, write(0, 1)]), 8);
     let fence = StripLine::Fence {
         kind: FenceKind::Release,
     };
@@ -85,27 +98,18 @@ fn refused_before_the_step(rt: HostRuntime) {
 #[test]
 fn refused_by_the_messages(rt: HostRuntime) {
     assert_eq!(rt; alone(&[LOAD], &[TURN, Line::Read { end: 5 }]), 10);
-    let write = Line::Write { from: 0, to: 1 };
+    let first = write(0, 1);
     assert_eq!(rt;
-        alone(&[STORE, LOAD], &[TURN, write, Line::Read { end: 0 }]),
+        alone(&[STORE, LOAD], &[TURN, first, Line::Read { end: 0 }]),
         11
     );
     assert_eq!(rt;
-        alone(&[STORE, LOAD], &[TURN, write, Line::Read { end: 1 }]),
+        alone(&[STORE, LOAD], &[TURN, first, Line::Read { end: 1 }]),
         12
     );
-    assert_eq!(rt;
-        alone(&[STORE], &[TURN, Line::Write { from: 1, to: 1 }]),
-        13
-    );
-    assert_eq!(rt;
-        alone(
-            &[STORE, STORE],
-            &[TURN, write, Line::Write { from: 0, to: 2 }],
-        ),
-        13
-    );
-    assert_eq!(rt; alone(&[STORE], &[TURN, PROMISE, Line::Show, write]), 14);
+    assert_eq!(rt; alone(&[STORE], &[TURN, write(1, 1)]), 13);
+    assert_eq!(rt; alone(&[STORE, STORE], &[TURN, first, write(0, 2)]), 13);
+    assert_eq!(rt; alone(&[STORE], &[TURN, PROMISE, Line::Show, first]), 14);
 }
 
 #[test]
@@ -127,15 +131,9 @@ fn updates_follow_one_another(rt: HostRuntime) {
         read: ReadMode::Relaxed,
         write: WriteMode::Relaxed,
     };
-    let first = Line::Update { from: 0, to: 1 };
-    assert_eq!(rt;
-        alone(&[add, add], &[TURN, first, Line::Update { from: 0, to: 2 }]),
-        11
-    );
-    assert_eq!(rt;
-        alone(&[add, add], &[TURN, first, Line::Update { from: 1, to: 2 }]),
-        0
-    );
+    let first = update(0, 1);
+    assert_eq!(rt; alone(&[add, add], &[TURN, first, update(0, 2)]), 11);
+    assert_eq!(rt; alone(&[add, add], &[TURN, first, update(1, 2)]), 0);
 }
 
 fn load(location: u8) -> RegisterLine {
@@ -169,7 +167,7 @@ fn load_buffering_lines() -> [Line; 16] {
         end,
         Line::Turn { thread: 1 },
         read,
-        Line::Write { from: 0, to: 1 },
+        write(0, 1),
         end,
         TURN,
         read,
@@ -259,7 +257,7 @@ fn refused_lines_are_passed_over(rt: HostRuntime) -> Result<(), Fail> {
         Line::Next,
         TURN,
         Line::Next,
-        Line::Write { from: 0, to: 3 },
+        write(0, 3),
         Line::Show,
         Line::Next,
         PROMISE,

@@ -1,8 +1,9 @@
 -- What the questions about a list of messages say of its members.
-use Rattle.std.proofs.Common.{◌≡◌, ℕ, zero, suc, ◌+◌, ◌<◌, ◌≤◌, Bool, true, false, cond, not, ◌&&◌, eqb, ltb, ◌⊎◌, List, [], ◌∷◌, length, get_or, IfSome, Some, None, Option, sym, refl, ap, ◌∙◌, subst, inl, inr, arith}
+use Rattle.std.proofs.Common.{◌≡◌, ℕ, zero, suc, ◌+◌, ◌<◌, ◌≤◌, Bool, true, false, cond, not, ◌&&◌, eqb, ltb, ◌⊎◌, List, [], ◌∷◌, length, get_or, IfSome, is_some, Some, None, Option, sym, refl, ap, ◌∙◌, subst, inl, inr, arith}
 use Rattle.std.proofs.lemmas.Bool.{and_parts, and_from, not-true, not_from_false, both_ways, eqb-true, ltb-true, eq-eqb, ne_eqb, lt-ltb, cases_Bool, cases_eq, cases_lt, cond-true, cond-false}
+use Rattle.lines.specs.declared.span.Span.{Span}
 use Rattle.stores.specs.declared.message.Message.{Message}
-use Rattle.stores.specs.Memory.{zero_message, ends_at, overlaps, find_from, find, is_free, greatest_end}
+use Rattle.stores.specs.Memory.{zero_message, ends_at, overlaps, find_from, find, overlap_from, is_free, greatest_end}
 use Rattle.stores.specs.StoreLaws.{In, EndsAt, Overlaps, Free, Finds, Greatest}
 use Rattle.stores.specs.ViewLaws.{Decides}
 
@@ -13,59 +14,56 @@ in_at (m ∷ ms) (suc k) d h = inr (in_at ms k d (omega arith))
 
 pub ends_at_sound : (x t : ℕ) (m : Message) → ends_at x t m ≡ true → EndsAt x t m
 ends_at_sound x t m e =
-    let p = and_parts (eqb m.location x) (eqb m.to t) e in
-    (eqb-true m.location x p.0, eqb-true m.to t p.1)
+    let p = and_parts (eqb m.location x) (eqb m.span.to t) e in
+    (eqb-true m.location x p.0, eqb-true m.span.to t p.1)
 
 pub ends_at_complete : (x t : ℕ) (m : Message) → EndsAt x t m → ends_at x t m ≡ true
-ends_at_complete x t m h = and_from _ _ (eq-eqb m.location x h.0) (eq-eqb m.to t h.1)
+ends_at_complete x t m h = and_from _ _ (eq-eqb m.location x h.0) (eq-eqb m.span.to t h.1)
 
 pub ends_at_law : (x t : ℕ) (m : Message) (r : Bool) → r ≡ ends_at x t m → Decides r (EndsAt x t m)
 unfolding Decides
 ends_at_law x t m r e = (λ h. ends_at_sound x t m (sym e ∙ h), λ h. e ∙ ends_at_complete x t m h)
 
-pub overlaps_sound : (x f t : ℕ) (m : Message) → overlaps x f t m ≡ true → Overlaps x f t m
-overlaps_sound x f t m e =
-    let p = and_parts (eqb m.location x) (ltb f m.to && ltb m.from t) e in
-    let q = and_parts (ltb f m.to) (ltb m.from t) p.1 in
-    (eqb-true m.location x p.0, ltb-true f m.to q.0, ltb-true m.from t q.1)
+pub overlaps_sound : (x : ℕ) (s : Span) (m : Message) → overlaps x s m ≡ true → Overlaps x s m
+overlaps_sound x s m e =
+    let p = and_parts (eqb m.location x) (ltb s.from m.span.to && ltb m.span.from s.to) e in
+    let q = and_parts (ltb s.from m.span.to) (ltb m.span.from s.to) p.1 in
+    (eqb-true m.location x p.0, ltb-true s.from m.span.to q.0, ltb-true m.span.from s.to q.1)
 
-pub overlaps_complete : (x f t : ℕ) (m : Message) → Overlaps x f t m → overlaps x f t m ≡ true
-overlaps_complete x f t m h =
-    and_from _ _ (eq-eqb m.location x h.0) (and_from _ _ (lt-ltb f m.to h.1) (lt-ltb m.from t h.2))
+pub overlaps_complete : (x : ℕ) (s : Span) (m : Message) → Overlaps x s m → overlaps x s m ≡ true
+overlaps_complete x s m h =
+    and_from _ _ (eq-eqb m.location x h.0) (and_from _ _ (lt-ltb s.from m.span.to h.1) (lt-ltb m.span.from s.to h.2))
 
-pub overlaps_law : (x f t : ℕ) (m : Message) (r : Bool) → r ≡ overlaps x f t m → Decides r (Overlaps x f t m)
+pub overlaps_law : (x : ℕ) (s : Span) (m : Message) (r : Bool) → r ≡ overlaps x s m → Decides r (Overlaps x s m)
 unfolding Decides
-overlaps_law x f t m r e = (λ h. overlaps_sound x f t m (sym e ∙ h), λ h. e ∙ overlaps_complete x f t m h)
+overlaps_law x s m r e = (λ h. overlaps_sound x s m (sym e ∙ h), λ h. e ∙ overlaps_complete x s m h)
 
-pub is_free_sound : (x f t : ℕ) (ms : List Message) → is_free x f t ms ≡ true → Free x f t ms
-is_free_sound x f t [] e m i o = i
-is_free_sound x f t (n ∷ ns) e m (inl i) o =
-    let p = and_parts (not (overlaps x f t n)) (is_free x f t ns) e in
-    both_ways (overlaps x f t n) (not-true _ p.0) (overlaps_complete x f t n (subst (Overlaps x f t) i o))
-is_free_sound x f t (n ∷ ns) e m (inr i) o =
-    is_free_sound x f t ns (and_parts (not (overlaps x f t n)) (is_free x f t ns) e).1 m i o
+pub is_free_sound : (x : ℕ) (s : Span) (ms : List Message) → is_free x s ms ≡ true → Free x s ms
+is_free_sound x s [] e m i o = i
+is_free_sound x s (n ∷ ns) e m (inl i) o =
+    let p = and_parts (not (overlaps x s n)) (is_free x s ns) e in
+    both_ways (overlaps x s n) (not-true _ p.0) (overlaps_complete x s n (subst (Overlaps x s) i o))
+is_free_sound x s (n ∷ ns) e m (inr i) o =
+    is_free_sound x s ns (and_parts (not (overlaps x s n)) (is_free x s ns) e).1 m i o
 
-pub is_free_complete : (x f t : ℕ) (ms : List Message) → Free x f t ms → is_free x f t ms ≡ true
-is_free_complete x f t [] h = refl
-is_free_complete x f t (n ∷ ns) h =
+pub is_free_complete : (x : ℕ) (s : Span) (ms : List Message) → Free x s ms → is_free x s ms ≡ true
+is_free_complete x s [] h = refl
+is_free_complete x s (n ∷ ns) h =
     and_from _ _
-    (elim (cases_Bool (overlaps x f t n)) [
-      | inl o ↦ absurd (h n (inl refl) (overlaps_sound x f t n o))
+    (elim (cases_Bool (overlaps x s n)) [
+      | inl o ↦ absurd (h n (inl refl) (overlaps_sound x s n o))
       | inr a ↦ not_from_false _ a
     ])
-    (is_free_complete x f t ns (λ m i. h m (inr i)))
+    (is_free_complete x s ns (λ m i. h m (inr i)))
 
-pub is_free_law : (x f t : ℕ) (ms : List Message) (r : Bool) → r ≡ is_free x f t ms → Decides r (Free x f t ms)
+pub is_free_law : (x : ℕ) (s : Span) (ms : List Message) (r : Bool) → r ≡ is_free x s ms → Decides r (Free x s ms)
 unfolding Decides
-is_free_law x f t ms r e = (λ h. is_free_sound x f t ms (sym e ∙ h), λ h. e ∙ is_free_complete x f t ms h)
-
-none_some : (k : ℕ) → ◌≡◌ {A = Option ℕ} None (Some k) → ⊥
-none_some k e = let z : ◌≡◌ {A = ℕ} 0 1 = cc in omega arith
+is_free_law x s ms r e = (λ h. is_free_sound x s ms (sym e ∙ h), λ h. e ∙ is_free_complete x s ms h)
 
 -- the number found is the first one's, counted from the number of the list's first
 pub find_from_some : (k x t : ℕ) (ms : List Message) (d : Message) (j : ℕ) → find_from k x t ms ≡ Some j
     → (i : ℕ) × (j ≡ k + i) × (i < length ms) × EndsAt x t (get_or ms i d) × ((h : ℕ) → h < i → EndsAt x t (get_or ms h d) → ⊥)
-find_from_some k x t [] d j e = absurd (none_some j e)
+find_from_some k x t [] d j e = absurd (cc)
 find_from_some k x t (m ∷ ms) d j e =
     elim (cases_Bool (ends_at x t m)) [
       | inl b ↦
@@ -85,10 +83,10 @@ find_from_some k x t (m ∷ ms) d j e =
 pub find_from_none : (k x t : ℕ) (ms : List Message) → find_from k x t ms ≡ None → (m : Message) → In m ms → EndsAt x t m → ⊥
 find_from_none k x t [] e m i h = i
 find_from_none k x t (n ∷ ns) e m (inl i) h =
-    none_some k (sym e ∙ cond-true _ (Some k) (find_from (k + 1) x t ns) (ends_at_complete x t n (subst (EndsAt x t) i h)))
+    let found = sym e ∙ cond-true _ (Some k) (find_from (k + 1) x t ns) (ends_at_complete x t n (subst (EndsAt x t) i h)) in absurd (cc)
 find_from_none k x t (n ∷ ns) e m (inr i) h =
     elim (cases_Bool (ends_at x t n)) [
-      | inl b ↦ none_some k (sym e ∙ cond-true _ (Some k) (find_from (k + 1) x t ns) b)
+      | inl b ↦ let found = sym e ∙ cond-true _ (Some k) (find_from (k + 1) x t ns) b in absurd (cc)
       | inr b ↦ find_from_none (k + 1) x t ns (sym (cond-false _ (Some k) (find_from (k + 1) x t ns) b) ∙ e) m i h
     ]
 
@@ -105,29 +103,39 @@ find_law x t ms (Some j) e =
     let At : ℕ → Type 0 = λ k. (k < length ms) × In (get_or ms k zero_message) ms × EndsAt x t (get_or ms k zero_message) × ((i : ℕ) → i < k → EndsAt x t (get_or ms i zero_message) → ⊥) in
     subst At same (r.2, in_at ms r.0 zero_message r.2, r.3, r.4)
 
-pub greatest_end_bound : (x : ℕ) (ms : List Message) (m : Message) → In m ms → m.location ≡ x → m.to ≤ greatest_end x ms
+-- a span is free where there is no first overlap
+pub free_overlap : (k x : ℕ) (s : Span) (ms : List Message) → not (is_some (overlap_from k x s ms)) ≡ is_free x s ms
+free_overlap k x s [] = refl
+free_overlap k x s (m ∷ ms) = by (overlaps x s m) (free_overlap (k + 1) x s ms)
+  where
+    by : (b : Bool) → not (is_some (overlap_from (k + 1) x s ms)) ≡ is_free x s ms
+        → not (is_some (cond b (Some k) (overlap_from (k + 1) x s ms))) ≡ (not b && is_free x s ms)
+    by true h = refl
+    by false h = h
+
+pub greatest_end_bound : (x : ℕ) (ms : List Message) (m : Message) → In m ms → m.location ≡ x → m.span.to ≤ greatest_end x ms
 greatest_end_bound x [] m i e = absurd i
 greatest_end_bound x (n ∷ ns) m (inl i) e =
     let l : n.location ≡ x = sym (ap (λ (k : Message). k.location) i) ∙ e in
-    let t : m.to ≡ n.to = ap (λ (k : Message). k.to) i in
-    let c : cond (eqb n.location x) n.to 0 ≡ n.to = cond-true _ n.to 0 (eq-eqb n.location x l) in
+    let t : m.span.to ≡ n.span.to = ap (λ (k : Message). k.span.to) i in
+    let c : cond (eqb n.location x) n.span.to 0 ≡ n.span.to = cond-true _ n.span.to 0 (eq-eqb n.location x l) in
     omega arith
 greatest_end_bound x (n ∷ ns) m (inr i) e = let h = greatest_end_bound x ns m i e in omega arith
 
 abbrev OneEnd : ℕ → List Message → ℕ → Type 0
-OneEnd x ms e = (e ≡ 0) ⊎ ((m : Message) × In m ms × (m.location ≡ x) × (m.to ≡ e))
+OneEnd x ms e = (e ≡ 0) ⊎ ((m : Message) × In m ms × (m.location ≡ x) × (m.span.to ≡ e))
 
 pub greatest_end_one : (x : ℕ) (ms : List Message) → OneEnd x ms (greatest_end x ms)
 greatest_end_one x [] = inl refl
 greatest_end_one x (n ∷ ns) = elim (cases_eq n.location x) [
   | inl l ↦
-      let c : cond (eqb n.location x) n.to 0 ≡ n.to = cond-true _ n.to 0 (eq-eqb n.location x l) in
-      elim (cases_lt (greatest_end x ns) n.to) [
+      let c : cond (eqb n.location x) n.span.to 0 ≡ n.span.to = cond-true _ n.span.to 0 (eq-eqb n.location x l) in
+      elim (cases_lt (greatest_end x ns) n.span.to) [
         | inl h ↦ inr (n, inl refl, l, omega arith)
         | inr h ↦ later (omega arith) (greatest_end_one x ns)
       ]
   | inr l ↦
-      let c : cond (eqb n.location x) n.to 0 ≡ 0 = cond-false _ n.to 0 (ne_eqb n.location x l) in
+      let c : cond (eqb n.location x) n.span.to 0 ≡ 0 = cond-false _ n.span.to 0 (ne_eqb n.location x l) in
       later (omega arith) (greatest_end_one x ns)
 ]
   where
@@ -138,5 +146,5 @@ greatest_end_one x (n ∷ ns) = elim (cases_eq n.location x) [
 pub greatest_end_law : (x : ℕ) (ms : List Message) (r : ℕ) → r ≡ greatest_end x ms → Greatest x ms r
 unfolding Greatest
 greatest_end_law x ms r e =
-    let Law : ℕ → Type 0 = λ k. ((m : Message) → In m ms → m.location ≡ x → m.to ≤ k) × OneEnd x ms k in
+    let Law : ℕ → Type 0 = λ k. ((m : Message) → In m ms → m.location ≡ x → m.span.to ≤ k) × OneEnd x ms k in
     subst Law (sym e) (greatest_end_bound x ms, greatest_end_one x ms)

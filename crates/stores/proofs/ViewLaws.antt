@@ -1,7 +1,8 @@
 -- Views by place: joins, single views and the order.
-use Rattle.std.proofs.Common.{◌≡◌, ℕ, zero, suc, ◌+◌, ◌<◌, ◌≤◌, max, Bool, true, ◌&&◌, leb, List, [], ◌∷◌, length, get_or, drop, replicate, sym, refl, ap, ◌∙◌, subst, arith, le-leb}
-use Rattle.std.proofs.lemmas.List.{ext_get_or, drop_more, drop_all, get_or-set_same, get_or-set_other, set_past}
-use Rattle.std.proofs.lemmas.Bool.{and_parts, and_from, leb-true}
+use Rattle.std.proofs.Common.{◌≡◌, ℕ, zero, suc, ◌<◌, ◌≤◌, max, Bool, true, cond, ◌&&◌, eqb, leb, inl, inr, set, length-set, List, [], ◌∷◌, length, get_or, replicate, sym, refl, ap, ◌∙◌, subst, arith, le-leb}
+use Rattle.std.proofs.lemmas.List.{ext_get_or, get_or-set_same, get_or-set_other, set_past}
+use Rattle.std.proofs.lemmas.Bool.{and_parts, and_from, leb-true, eq-eqb, ne_eqb, cases_eq, cond-true, cond-false}
+use Rattle.std.specs.List.{list_all, zip}
 use Rattle.stores.specs.declared.view.View.{View}
 use Rattle.stores.specs.Views.{at, zero_view, single, greater_ends, join, ends_at_most, at_most, Below}
 use Rattle.stores.specs.ViewLaws.{Decides, GreaterAtEach, LeastUpperBound, Least, OnlyAt}
@@ -68,13 +69,19 @@ at_single_other x t y h = get_or-set_other (replicate 8 0) x y t 0 h ∙ at_zero
 pub single_outside : (x t : ℕ) → 8 ≤ x → single x t ≡ zero_view
 single_outside x t h = ap (λ (l : List ℕ). record { ends = l }) (set_past (replicate 8 0) x t h)
 
--- one place more of a comparison
-pub ends_at_most_more : (as' bs : List ℕ) (i : ℕ) → i < length as' → i < length bs → ends_at_most (drop i as') (drop i bs) ≡ (leb (get_or as' i 0) (get_or bs i 0) && ends_at_most (drop (i + 1) as') (drop (i + 1) bs))
-ends_at_most_more as' bs i la lb =
-    ap (λ l. ends_at_most l (drop i bs)) (drop_more as' i 0 la) ∙ ap (λ l. ends_at_most (get_or as' i 0 ∷ drop (i + 1) as') l) (drop_more bs i 0 lb)
+-- eight ends, t at x and else 0
+pub is_single : (x t : ℕ) (r : View) → length r.ends ≡ 8 → ((y : ℕ) → y < 8 → at r y ≡ cond (eqb y x) t 0) → r ≡ single x t
+is_single x t r l h =
+    ap (λ (l : List ℕ). record { ends = l }) (ext_get_or 0 r.ends (set (replicate 8 0) x t) (l ∙ sym (length-set (replicate 8 0) x t)) (λ y less. h y (omega arith) ∙ elim (cases_eq y x) as (λ _. cond (eqb y x) t 0 ≡ at (single x t) y) [
+      | inl e ↦ cond-true _ t 0 (eq-eqb y x e) ∙ sym (ap (at (single x t)) e ∙ at_single x t (omega arith))
+      | inr n ↦ cond-false _ t 0 (ne_eqb y x n) ∙ sym (at_single_other x t y n)
+    ]))
 
-pub ends_at_most_end : (as' bs : List ℕ) (i : ℕ) → length as' ≤ i → ends_at_most (drop i as') (drop i bs) ≡ true
-ends_at_most_end as' bs i l = ap (λ k. ends_at_most k (drop i bs)) (drop_all i as' l)
+-- the comparison in pairs, of lists of one length
+pub at_most_zip : (as' bs : List ℕ) → length as' ≡ length bs → list_all (λ (p : ℕ × ℕ). leb p.0 p.1) (zip as' bs) ≡ ends_at_most as' bs
+at_most_zip [] bs h = refl
+at_most_zip (a ∷ as') [] h = absurd (omega arith)
+at_most_zip (a ∷ as') (b ∷ bs) h = ap (λ t. leb a b && t) (at_most_zip as' bs (omega arith))
 
 ends_sound : (as' bs : List ℕ) → ends_at_most as' bs ≡ true → (x : ℕ) → get_or as' x 0 ≤ get_or bs x 0
 ends_sound [] bs e x = omega arith

@@ -1,39 +1,37 @@
 // The flat store: the messages as they arrived, in an array.
-ghost use Rattle.std.specs.Prelude.{◌≡◌, ◌≤◌, [], length, take};
+ghost use Rattle.std.specs.Prelude.{◌≡◌, ◌≤◌, [], length};
 ghost use Rattle.stores.specs.Memory.{overlap_from};
-ghost use Rattle.std.proofs.Common.{rules, arith};
+ghost use Rattle.std.proofs.Common.{rules};
 
 use crate::kept::{Kept, StoreFault};
 use crate::message::Message;
 use crate::store::Store;
+use bounded::Bounded;
 use lines::End;
-
-const CAPACITY: usize = 64;
+use lines::span::Span;
 
 #[derive(Drop)]
 pub struct Flat {
-    items: [Message; CAPACITY],
-    len: usize,
-    ghost fits: { len ≤ 64 },
-    ghost whole: { length items ≡ 64 },
+    messages: Bounded<Message, 64>,
+    ghost few: { length messages ≤ 64 },
 }
 
 impl Flat {
     pub fn new() -> Flat
-        ensures { take result.len result.items ≡ [] }
+        ensures { result.messages ≡ [] }
     {
         Flat {
-            items: [Message::zero(); CAPACITY],
-            len: 0,
+            messages: Bounded::new(Message::zero()),
         }
     }
 
-    // the arrival number of the first message of the location that overlaps (from, to]
-    fn first_overlap(&self, location: u8, from: End, to: End) -> Option<usize>
-        ensures { result ≡ overlap_from 0 location from to (take self.now.len self.now.items) }
+    // The arrival number of the first message of the location that overlaps the span.
+    // Here and in `find` a loop, and no `position`: a rule of the project.
+    fn first_overlap(&self, location: u8, span: Span) -> Option<usize>
+        ensures { result ≡ overlap_from 0 location span self.now.messages }
     {
-        for (k, m) in self.items[0..self.len].iter().enumerate() {
-            if m.overlaps(location, from, to) {
+        for (k, m) in self.messages.as_slice().iter().enumerate() {
+            if m.overlaps(location, span) {
                 return Some(k);
             }
         }
@@ -42,25 +40,21 @@ impl Flat {
 }
 
 impl Store for Flat {
-    ghost held = { λ s. take s.len s.items };
+    ghost held = { λ s. s.messages };
 
     ghost capacity = { λ _. 64 };
 
-    ghost bounded = { first_of (Prim.search rules, Prim.grind (arith, Self.row.coded.inj)) };
+    ghost bounded = { Prim.search rules };
 
-    ghost small = { first_of (Prim.search rules, Prim.grind (arith, Self.row.coded.inj)) };
+    ghost small = { Prim.search rules };
 
     fn add(&mut self, message: Message) -> Result<(), StoreFault> {
-        if self.len == CAPACITY {
-            return Err(StoreFault::Full);
-        }
-        self.items[self.len] = message;
-        self.len += 1;
+        self.messages.push(message)?;
         Ok(())
     }
 
     fn find(&self, location: u8, end: End) -> Option<usize> {
-        for (k, m) in self.items[0..self.len].iter().enumerate() {
+        for (k, m) in self.messages.as_slice().iter().enumerate() {
             if m.ends_at(location, end) {
                 return Some(k);
             }
@@ -68,42 +62,33 @@ impl Store for Flat {
         None
     }
 
-    fn is_free(&self, location: u8, from: End, to: End) -> bool {
-        self.first_overlap(location, from, to).is_none()
+    fn is_free(&self, location: u8, span: Span) -> bool {
+        self.first_overlap(location, span).is_none()
     }
 
     fn greatest_end(&self, location: u8) -> End {
         let mut end = 0;
-        for m in &self.items[0..self.len] {
+        for m in self.messages.as_slice() {
             if m.location == location {
-                end = m.to.max(end);
+                end = m.span.to.max(end);
             }
         }
         end
     }
 
     fn nth(&self, k: usize) -> Kept {
-        if k < self.len {
-            let message = self.items[k];
-            Kept {
-                there: true,
-                message,
-            }
-        } else {
-            Kept {
-                there: false,
-                message: Message::zero(),
-            }
+        let message = self.messages.get(k);
+        Kept {
+            there: message.is_some(),
+            message: message.unwrap_or(Message::zero()),
         }
     }
 
     fn len(&self) -> usize {
-        self.len
+        self.messages.len()
     }
 
     fn keep(&mut self, n: usize) {
-        if n < self.len {
-            self.len = n;
-        }
+        self.messages.truncate(n);
     }
 }

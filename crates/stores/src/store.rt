@@ -8,6 +8,7 @@ ghost use Rattle.stores.specs.ViewLaws.{Decides};
 use crate::kept::{Kept, StoreFault};
 use crate::message::Message;
 use lines::End;
+use lines::span::Span;
 
 pub trait Store: Drop {
     // the messages, in order of arrival
@@ -27,10 +28,10 @@ pub trait Store: Drop {
         ensures inside { IfSome result (λ k. k < length (held self.now)) }
         ensures exact { Finds location end (held self.now) result };
 
-    // whether the span (from, to] overlaps no message of the location
-    fn is_free(&self, location: u8, from: End, to: End) -> bool
-        ensures value { result ≡ is_free location from to (held self.now) }
-        ensures exact { Decides result (Free location from to (held self.now)) };
+    // whether the span overlaps no message of the location
+    fn is_free(&self, location: u8, span: Span) -> bool
+        ensures value { result ≡ is_free location span (held self.now) }
+        ensures exact { Decides result (Free location span (held self.now)) };
 
     // 0 where the location has no message
     fn greatest_end(&self, location: u8) -> End

@@ -1,6 +1,6 @@
 // Views, and every question asked of the flat store and of a store with room for three.
-ghost use Rattle.std.specs.Prelude.{◌≤◌, length, take};
-ghost use Rattle.std.proofs.Common.{rules, arith};
+ghost use Rattle.std.specs.Prelude.{◌≤◌, length};
+ghost use Rattle.std.proofs.Common.{rules};
 
 use crate::flat::Flat;
 use crate::kept::{Kept, StoreFault};
@@ -8,23 +8,24 @@ use crate::message::Message;
 use crate::store::Store;
 use crate::view::View;
 use lines::End;
+use lines::span::Span;
 use std::process::Abort;
 use std::test::Fail;
 
 #[derive(Drop)]
 struct Small {
     inner: Flat,
-    ghost few: { length (take inner.len inner.items) ≤ 3 },
+    ghost few: { length (inner.messages) ≤ 3 },
 }
 
 impl Store for Small {
-    ghost held = { λ s. take s.inner.len s.inner.items };
+    ghost held = { λ s. s.inner.messages };
 
     ghost capacity = { λ _. 3 };
 
-    ghost bounded = { first_of (Prim.search rules, Prim.grind (arith, Self.row.coded.inj)) };
+    ghost bounded = { Prim.search rules };
 
-    ghost small = { first_of (Prim.search rules, Prim.grind (arith, Self.row.coded.inj)) };
+    ghost small = { Prim.search rules };
 
     fn add(&mut self, message: Message) -> Result<(), StoreFault> {
         if self.inner.len() == 3 {
@@ -37,8 +38,8 @@ impl Store for Small {
         self.inner.find(location, end)
     }
 
-    fn is_free(&self, location: u8, from: End, to: End) -> bool {
-        self.inner.is_free(location, from, to)
+    fn is_free(&self, location: u8, span: Span) -> bool {
+        self.inner.is_free(location, span)
     }
 
     fn greatest_end(&self, location: u8) -> End {
@@ -61,8 +62,7 @@ impl Store for Small {
 fn message(location: u8, from: End, to: End, value: u16) -> Message {
     Message {
         location,
-        from,
-        to,
+        span: Span { from, to },
         value,
         view: View::single(location, to),
     }
@@ -75,12 +75,24 @@ fn answers<S: Store>(rt: &impl Abort, store: &mut S) -> Result<(), Fail> {
     assert_eq!(rt; store.len(), 3);
     assert_eq!(rt; store.find(1, 5), Some(1));
     assert_eq!(rt; store.find(2, 5), None);
-    assert!(rt; store.is_free(1, 5, 7));
-    assert!(rt; !store.is_free(1, 4, 7));
+    assert!(rt; store.is_free(1, Span { from: 5, to: 7 }));
+    assert!(rt; !store.is_free(1, Span { from: 4, to: 7 }));
     assert_eq!(rt; store.greatest_end(1), 5);
     assert_eq!(rt; store.greatest_end(3), 0);
-    assert_eq!(rt; store.nth(2).message.value, 8);
-    assert!(rt; !store.nth(3).there);
+    assert_eq!(rt;
+        store.nth(2),
+        Kept {
+            there: true,
+            message: message(2, 0, 9, 8)
+        }
+    );
+    assert_eq!(rt;
+        store.nth(3),
+        Kept {
+            there: false,
+            message: Message::zero()
+        }
+    );
     store.keep(2);
     assert_eq!(rt; store.len(), 2);
     assert_eq!(rt; store.find(2, 9), None);
@@ -107,7 +119,12 @@ fn small_answers_and_refuses(rt: HostRuntime) -> Result<(), Fail> {
 fn views_join(rt: HostRuntime) {
     let a = View::single(1, 5).join(View::single(2, 3));
     let b = a.join(View::single(1, 4));
-    assert_eq!(rt; b.at(1), 5);
+    assert_eq!(rt;
+        b,
+        View {
+            ends: [0, 5, 3, 0, 0, 0, 0, 0]
+        }
+    );
     assert_eq!(rt; b.at(2), 3);
     assert_eq!(rt; b.at(8), 0);
     assert!(rt; b.at_most(a));

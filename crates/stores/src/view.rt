@@ -4,13 +4,15 @@ ghost use Rattle.stores.specs.ViewLaws.{Decides, GreaterAtEach, LeastUpperBound,
 ghost use Rattle.stores.specs.Views.{at, zero_view, single, join, at_most, Below};
 
 use lines::End;
+use std::array;
 
-#[derive(Clone, Copy)]
+#[derive(Clone, Copy, PartialEq, Eq, Debug)]
 pub struct View {
     pub ends: [End; 8],
 }
 
 impl View {
+    #[tactic(auto, using(crate::proofs::ViewLaws::zero_law))]
     pub fn zero() -> View
         ensures value { result ≡ zero_view }
         ensures least { Least result }
@@ -23,22 +25,16 @@ impl View {
         ensures value { result ≡ single location end }
         ensures places { OnlyAt location end result }
     {
-        let mut ends = [0; 8];
-        if location < 8 {
-            ends[location as usize] = end;
+        View {
+            ends: array::from_fn(|x| if x == usize::from(location) { end } else { 0 }),
         }
-        View { ends }
     }
 
     // 0 past the last location
     pub fn at(self, location: u8) -> End
         ensures { result ≡ at self location }
     {
-        if location < 8 {
-            self.ends[location as usize]
-        } else {
-            0
-        }
+        self.ends.get(usize::from(location)).copied().unwrap_or(0)
     }
 
     pub fn join(self, other: View) -> View
@@ -46,11 +42,9 @@ impl View {
         ensures places { GreaterAtEach self other result }
         ensures bound { LeastUpperBound self other result }
     {
-        let mut ends = [0; 8];
-        for x in 0..8 {
-            ends[x] = self.ends[x].max(other.ends[x]);
+        View {
+            ends: array::from_fn(|x| self.ends[x].max(other.ends[x])),
         }
-        View { ends }
     }
 
     // whether this view is at most the other at each location
@@ -58,11 +52,6 @@ impl View {
         ensures value { result ≡ at_most self other }
         ensures order { Decides result (Below self other) }
     {
-        for x in 0..8 {
-            if self.ends[x] > other.ends[x] {
-                return false;
-            }
-        }
-        true
+        self.ends.iter().zip(&other.ends).all(|(a, b)| a <= b)
     }
 }

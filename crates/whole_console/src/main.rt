@@ -5,9 +5,9 @@
 mod place;
 mod words;
 
-use crate::place::{Part, part_of, refused_line};
+use crate::place::{part_of, refused_line};
 use crate::words::{layer_name, meaning};
-use std::alloc::Global;
+use jobs::fault::Numbered;
 use std::io::{Read, Write};
 use std::{env, io};
 use whole_judge::fault::Refusal;
@@ -18,52 +18,21 @@ use whole_judge::verdict::MOST_FILE;
 // The most bytes of a refused line that are shown.
 const MOST_SHOWN: usize = 100;
 
-// The input, of which one byte more than a file may have is enough to refuse it.
-fn input(rt: &HostRuntime, heap: Global) -> io::Result<Vec<u8>> {
-    let mut stdin = rt.stdin();
-    let mut file = vec![in heap; 0u8; MOST_FILE + 1]?;
-    let mut len = 0;
-    for _ in 0..u64::MAX {
-        if len >= file.len() {
-            break;
-        }
-        let count = stdin.read(&mut file[len..])?;
-        if count == 0 {
-            break;
-        }
-        len += count;
-    }
-    file.truncate(len);
-    Ok(file)
-}
-
 // Whether the bare report is asked for.
 fn wants_report_only(rt: &HostRuntime) -> io::Result<bool> {
-    let mut only = false;
-    for word in env::args(rt)? {
-        if word.as_str() == "--report" {
-            only = true;
-        }
-    }
-    Ok(only)
+    Ok(env::args(rt)?.any(|word| word.as_str() == "--report"))
 }
 
 // Bytes that do not print are shown by their number.
-fn show_byte(rt: &HostRuntime, byte: u8) -> io::Result<()> {
-    if byte >= 32 && byte < 127 {
-        rt.print(byte as char)
-    } else {
-        print!(rt; "\\x{byte:02x}")
-    }
-}
-
 fn show_line(rt: &HostRuntime, line: &[u8]) -> io::Result<()> {
-    for (i, byte) in line.iter().enumerate() {
-        if i >= MOST_SHOWN {
-            print!(rt; " and more")?;
-            break;
+    for byte in line.iter().take(MOST_SHOWN) {
+        match *byte {
+            b' '..=b'~' => rt.print(*byte as char)?,
+            byte => print!(rt; "\\x{byte:02x}")?,
         }
-        show_byte(rt, *byte)?;
+    }
+    if line.len() > MOST_SHOWN {
+        print!(rt; " and more")?;
     }
     println!(rt; "")
 }
@@ -78,22 +47,21 @@ fn explain(rt: &HostRuntime, file: &[u8], refusal: Refusal) -> io::Result<()> {
     if refusal.line == 0 {
         return Ok(());
     }
+    let part = part_of(file, refusal.section);
     let line = refusal.line;
-    match part_of(file, refusal.section) {
-        Part::Head => print!(rt; "# head, line {line}: ")?,
-        Part::Program { thread } => print!(rt; "# program of thread {thread}, line {line}: ")?,
-        Part::Trace => print!(rt; "# trace, line {line}: ")?,
-    }
+    print!(rt; "# {part}, line {line}: ")?;
     show_line(rt, refused_line(file, refusal))
 }
 
 fn main(rt: HostRuntime) -> io::Result<()> {
-    let file = input(&rt, rt.alloc())?;
+    let mut file = vec![in rt.alloc()]?;
+    // one byte more than a file may have is enough to refuse it
+    rt.stdin()
+        .take(MOST_FILE as u64 + 1)
+        .read_to_end(&mut file)?;
     let mut report = [0u8; LEAST_REPORT];
     let len = judge(&file, &mut report);
-    if len <= report.len() {
-        rt.stdout().write_all(&report[0..len])?;
-    }
+    rt.stdout().write_all(report.get(..len).unwrap_or(&report))?;
     if wants_report_only(&rt)? {
         return Ok(());
     }

@@ -1,7 +1,19 @@
 // What a refusal means, in words.
+use jobs::fault::{FileFault, Numbered};
+use lines::layer::Layer;
 use lines::reader::LineFault;
 use rules::fault::StepFault;
 use whole_judge::fault::Fault;
+
+fn file_meaning(fault: FileFault) -> &'static str {
+    match fault {
+        FileFault::FileSize => "the file is longer than 65535 bytes",
+        FileFault::Line(LineFault::Form) => "the letter, the fields or the line feed are not right",
+        FileFault::Line(LineFault::Range) => "a field is out of range",
+        FileFault::Sections => "the section does not lie where it should",
+        FileFault::TooManyLines => "a program has 64 lines at most",
+    }
+}
 
 fn step_meaning(fault: StepFault) -> &'static str {
     match fault {
@@ -22,11 +34,7 @@ fn step_meaning(fault: StepFault) -> &'static str {
 
 pub(crate) fn meaning(fault: Fault) -> &'static str {
     match fault {
-        Fault::FileSize => "the file is longer than 65535 bytes",
-        Fault::Line(LineFault::Form) => "the letter, the fields or the line feed are not right",
-        Fault::Line(LineFault::Range) => "a field is out of range",
-        Fault::Sections => "the section does not lie where it should",
-        Fault::TooManyLines => "a program has 64 lines at most",
+        Fault::File(fault) => file_meaning(fault),
         Fault::Step(fault) => step_meaning(fault),
         Fault::Unfinished => "the trace ends in a turn or in a showing",
     }
@@ -35,9 +43,9 @@ pub(crate) fn meaning(fault: Fault) -> &'static str {
 // What refused it, by the layer.
 pub(crate) fn layer_name(fault: Fault) -> &'static str {
     match fault.layer() {
-        0 => "file",
-        1 => "line",
-        2 => "step",
-        _ => "store",
+        Layer::File => "file",
+        Layer::Line => "line",
+        Layer::Step => "step",
+        Layer::Store => "store",
     }
 }

@@ -1,14 +1,8 @@
-pub mod JobCodec
-pub mod SectionCodec
-pub mod HeadSteps
-pub mod HeadLaws
-pub mod Overs
-pub mod Cuts
-pub mod ProgramsRead
 pub mod TraceSteps
 pub mod Lengths
-pub mod Texts
+pub mod Ends
 pub mod Traced
 pub mod ProgramsHeld
 pub mod Reported
 pub mod VerdictSteps
+pub mod Nths

@@ -1,12 +1,11 @@
 -- A report starts with OK exactly when the file's trace is a run of its programs.
-use Rattle.std.proofs.Common.{◌≡◌, ℕ, ◌+◌, ◌-◌, ◌≤◌, true, ltb, ◌⊎◌, List, [], ◌∷◌, ◌++◌, map, length, get_or, take, replicate, Ok, Err, Result, sym, refl, ap, ◌∙◌, subst, inl, inr, arith, le-ltb}
+use Rattle.std.proofs.Common.{◌≡◌, ℕ, ◌+◌, ◌-◌, ◌≤◌, true, ◌⊎◌, List, [], ◌∷◌, ◌++◌, map, length, get_or, take, replicate, Ok, Err, Result, sym, refl, ap, ◌∙◌, subst, inl, inr, arith, le-ltb}
 use Rattle.std.proofs.lemmas.List.{take_at}
-use Rattle.std.proofs.lemmas.Bool.{cases_Bool, ltb-false, cond-true, cond-false}
-use Rattle.lines.specs.declared.refusal.LineRefusal.{LineRefusal}
+use Rattle.std.proofs.lemmas.Bool.{cases_Bool, cond-true, cond-false}
 use Rattle.lines.specs.declared.trace.Line.{Line}
 use Rattle.lines.specs.Families.{Family, reads}
 use Rattle.lines.proofs.Options.{err_ok, ok_same}
-use Rattle.lines.proofs.Familiar.{Codec}
+use Rattle.lines.specs.Codecs.{Codec}
 use Rattle.languages.specs.Behaviours.{Behaviour}
 use Rattle.languages.specs.RegisterLines.{register_lines}
 use Rattle.languages.specs.Registers.{register_start}
@@ -21,19 +20,25 @@ use Rattle.rules.specs.Laws.{Agreement}
 use Rattle.rules.proofs.Lawfulness.{lawful}
 use Rattle.run.specs.Reports.{is_between}
 use Rattle.whole_judge.specs.declared.fault.Fault.{Fault}
-use Rattle.whole_judge.specs.declared.fault.Refusal.{Refusal}
-use Rattle.whole_judge.specs.declared.job.LanguageChoice.{LanguageChoice}
-use Rattle.whole_judge.specs.declared.job.LanguageChoice.TheVariants.{Registers, Strips}
-use Rattle.whole_judge.specs.declared.section.Section.{Section}
-use Rattle.whole_judge.specs.Heads.{and_then, Heading, heading}
-use Rattle.whole_judge.specs.HeadLaws.{Begins}
-use Rattle.whole_judge.specs.Programs.{cut, programs_after}
+use Rattle.whole_judge.specs.declared.fault.Fault.TheVariants.{File}
+use Rattle.jobs.specs.declared.fault.Refusal.{Refusal}
+use Rattle.jobs.specs.declared.job.LanguageChoice.{LanguageChoice}
+use Rattle.jobs.specs.declared.job.LanguageChoice.TheVariants.{Registers, Strips}
+use Rattle.jobs.specs.declared.section.Section.{Section}
+use Rattle.jobs.specs.declared.fault.FileFault.{FileFault}
+use Rattle.jobs.specs.Faults.{in_section, widened}
+use Rattle.jobs.specs.Heads.{and_then, Heading, heading, file_heading}
+use Rattle.jobs.specs.HeadLaws.{Begins}
+use Rattle.jobs.specs.Programs.{cut, nowhere, programs_after}
 use Rattle.whole_judge.specs.Traces.{Progress, followed, finished, trace_judged}
-use Rattle.whole_judge.specs.Verdicts.{nowhere, run_made, trace_in, with_trace, read_as, read_in, judged}
-use Rattle.whole_judge.specs.Reports.{accepted_text, report_text, report_on, answered, left_in}
+use Rattle.whole_judge.specs.Verdicts.{run_made, with_trace, read_as, read_in, judged}
+use Rattle.whole_judge.specs.Reports.{accepted_text, told, report_text, report_on, answered, left_in}
+use Rattle.jobs.specs.Reports.{said}
+use Rattle.jobs.specs.Texts.{answer, left}
+use Rattle.whole_judge.specs.Faults.{fault_number, fault_layer}
 use Rattle.whole_judge.specs.JobLaws.{HoldPrograms, ThreadsIn, Leads, nowhere_yet, by_step, IsRun, StartsWithOk, StartsWithNo, Reported}
-use Rattle.whole_judge.proofs.JobCodec.{scope_tells}
-use Rattle.whole_judge.proofs.HeadLaws.{then_ok, head_exact}
+use Rattle.jobs.specs.JobCodec.{scope_tells}
+use Rattle.jobs.proofs.HeadLaws.{then_ok, in_section_ok, head_exact, file_head_was, file_head_is}
 use Rattle.whole_judge.proofs.ProgramsHeld.{programs_were, programs_are}
 use Rattle.whole_judge.proofs.Traced.{Accepted, followed_lines, lines_followed, followed_lawful}
 
@@ -59,9 +64,9 @@ made_ok : (t : Tried Run) (r : Run) → run_made t ≡ Ok r → t ≡ went r
 made_ok (went x) r e = ap went (ok_same e)
 made_ok (refused f) r e = absurd (err_ok e)
 
-trace_ok : (s : ℕ) (o : Result Progress (LineRefusal Fault)) (p : Progress) → trace_in s o ≡ Ok p → o ≡ Ok p
-trace_ok s (Ok x) p e = ap Ok (ok_same e)
-trace_ok s (Err f) p e = absurd (err_ok e)
+widened_ok : {A : Type 0} (o : Result A (Refusal FileFault)) (a : A) → widened File o ≡ Ok a → o ≡ Ok a
+widened_ok (Ok x) a e = ap Ok (ok_same e)
+widened_ok (Err f) a e = absurd (err_ok e)
 
 between_is : (ph : Phase) → is_between ph ≡ true → ph ≡ between
 between_is between e = refl
@@ -86,7 +91,7 @@ module _ (capacity : ℕ) (file : List ℕ) (n l : ℕ) (sections : List Section
   runs threads p e =
       let bs = cut file (get_or sections n nowhere) in
       let m = then_ok (run_made (made threads n l capacity)) _ p e in
-      let t = then_ok (followed n l m.0 bs) finished p (trace_ok (n + 1) (trace_judged n l m.0 bs) p m.2) in
+      let t = then_ok (followed n l m.0 bs) finished p (in_section_ok (λ f. f) (n + 1) (trace_judged n l m.0 bs) p m.2) in
       let f = finished_ok t.0 p t.2 in
       record {
         first = m.0;
@@ -99,20 +104,21 @@ module _ (capacity : ℕ) (file : List ℕ) (n l : ℕ) (sections : List Section
   runs_back threads p w =
       let bs = cut file (get_or sections n nowhere) in
       let done : finished p ≡ Ok p = cond-true (is_between p.run.phase) _ _ (ap is_between w.ended) in
-      ap (λ t. and_then (run_made t) (λ r. trace_in (n + 1) (trace_judged n l r bs))) w.start ∙ ap (λ o. trace_in (n + 1) (and_then o finished)) w.follows ∙ ap (trace_in (n + 1)) done
+      ap (λ t. and_then (run_made t) (λ r. in_section (λ f. f) (n + 1) (trace_judged n l r bs))) w.start ∙ ap (λ o. in_section (λ f. f) (n + 1) (and_then o finished)) w.follows ∙ ap (in_section (λ f. f) (n + 1)) done
 
   -- the programs
 
   module _ {K I : Type 0} (F : Family K I) {Fits : I → Type 0} (codec : Codec F Fits) (start : List I → Behaviour) where
     read_were : (p : Progress) → read_as (reads F) start capacity file n l sections ≡ Ok p → (ps : List (List I)) × HoldPrograms F Fits file (take n sections) ps × (with_trace capacity file n l sections (map start ps) ≡ Ok p)
     read_were p e =
-        let t = then_ok (programs_after (reads F) file 1 [] (take n sections)) _ p e in
-        let h = programs_were F codec file (take n sections) 1 [] t.0 t.1 in
+        let o = programs_after (reads F) file 1 [] (take n sections) in
+        let t = then_ok (widened File o) _ p e in
+        let h = programs_were F codec file (take n sections) 1 [] t.0 (widened_ok o t.0 t.1) in
         (h.0, h.2, ap (λ ps. with_trace capacity file n l sections (map start ps)) (sym h.1) ∙ t.2)
 
     read_are : (p : Progress) (ps : List (List I)) (threads : List Behaviour) → HoldPrograms F Fits file (take n sections) ps → threads ≡ map start ps → with_trace capacity file n l sections threads ≡ Ok p → read_as (reads F) start capacity file n l sections ≡ Ok p
     read_are p ps threads h same e =
-        ap (λ o. and_then o (λ qs. with_trace capacity file n l sections (map start qs))) (programs_are F codec file (take n sections) 1 [] ps h) ∙ ap (with_trace capacity file n l sections) (sym same) ∙ e
+        ap (λ o. and_then (widened File o) (λ qs. with_trace capacity file n l sections (map start qs))) (programs_are F codec file (take n sections) 1 [] ps h) ∙ ap (with_trace capacity file n l sections) (sym same) ∙ e
 
   threads_were : (g : LanguageChoice) (p : Progress) → l ≤ 8 → read_in g capacity file n l sections ≡ Ok p → (threads : List Behaviour) × ThreadsIn g l file (take n sections) threads × (with_trace capacity file n l sections threads ≡ Ok p)
   threads_were Registers p small e = let r = read_were (register_lines l) (register_codec l small) register_start p e in (map register_start r.0, (r.0, r.1, refl), r.2)
@@ -125,37 +131,35 @@ module _ (capacity : ℕ) (file : List ℕ) (n l : ℕ) (sections : List Section
 -- the file
 
 module _ (file : List ℕ) where
-  abbrev after_head : Heading → Result Progress Refusal
+  abbrev after_head : Heading → Result Progress (Refusal Fault)
   after_head h = read_in h.job.language 64 file h.job.threads h.job.locations h.sections
 
   is_run : (p : Progress) → judged 64 file ≡ Ok p → (trace : List Line) × (r : Run) × IsRun file trace r × (p ≡ record { count = length trace; run = r })
-  is_run p e = elim (cases_Bool (ltb 65535 (length file))) [
-    | inl big ↦ absurd (err_ok (rw big at e))
-    | inr not-big ↦
-        let t = then_ok (heading file) after_head p (rw not-big at e) in
-        let h = t.0 in
-        let b : Begins file h = (head_exact file (heading file) refl h).0 t.1 in
-        let s = scope_tells h.job.threads h.job.locations b.job_fits in
-        let n = h.job.threads in
-        let l = h.job.locations in
-        let q = threads_were 64 file n l h.sections h.job.language p s.1 t.2 in
-        let w = runs 64 file n l h.sections q.0 p q.2 in
-        let f = followed_lines n l s.0 s.1 w.first (cut file (get_or h.sections n nowhere)) p w.follows in
-        let agree : (more : List Line) → Agreement (played w.first more) = λ more. (lawful q.0 n l 64 (omega arith) w.first w.start more).agreement in (
-          f.lines,
-          p.run,
-          record {
-            heading = h;
-            threads = q.0;
-            job = record { small = ltb-false 65535 (length file) not-big; begins = b; programs = q.1; lines = record { spelled = f.spelled; fit = f.fit } };
-            first = w.first;
-            start = w.start;
-            led = leads w.first f.lines p.run agree f.accepted;
-            ended = w.ended;
-          },
-          λ i. record { count = f.count i; run = p.run },
-        )
-  ]
+  is_run p e =
+      let t = then_ok (widened File (file_heading file)) after_head p e in
+      let h = t.0 in
+      let was = file_head_was file h (widened_ok (file_heading file) h t.1) in
+      let b : Begins file h = (head_exact file (heading file) refl h).0 was.1 in
+      let s = scope_tells h.job.threads h.job.locations b.job_fits in
+      let n = h.job.threads in
+      let l = h.job.locations in
+      let q = threads_were 64 file n l h.sections h.job.language p s.1 t.2 in
+      let w = runs 64 file n l h.sections q.0 p q.2 in
+      let f = followed_lines n l s.0 s.1 w.first (cut file (get_or h.sections n nowhere)) p w.follows in
+      let agree : (more : List Line) → Agreement (played w.first more) = λ more. (lawful q.0 n l 64 (omega arith) w.first w.start more).agreement in (
+        f.lines,
+        p.run,
+        record {
+          heading = h;
+          threads = q.0;
+          job = record { small = was.0; begins = b; programs = q.1; lines = record { spelled = f.spelled; fit = f.fit } };
+          first = w.first;
+          start = w.start;
+          led = leads w.first f.lines p.run agree f.accepted;
+          ended = w.ended;
+        },
+        λ i. record { count = f.count i; run = p.run },
+      )
 
   run_is : (trace : List Line) (r : Run) → IsRun file trace r → judged 64 file ≡ Ok (record { count = length trace; run = r })
   run_is trace r w =
@@ -168,7 +172,7 @@ module _ (file : List ℕ) where
       let agree : (more : List Line) → Agreement (played w.first more) = λ more. (lawful w.threads n l 64 (omega arith) w.first w.start more).agreement in
       let follows = lines_followed n l s.0 s.1 w.first (cut file (get_or h.sections n nowhere)) p (record { lines = trace; spelled = j.lines.spelled; fit = j.lines.fit; accepted = led agree w.led; count = refl }) in
       let traced = runs_back 64 file n l h.sections w.threads p (record { first = w.first; start = w.start; follows = follows; ended = w.ended }) in
-      cond-false (ltb 65535 (length file)) _ _ (le-ltb 65535 (length file) j.small) ∙ ap (λ o. and_then o after_head) ((head_exact file (heading file) refl h).1 j.begins) ∙ threads_are 64 file n l h.sections h.job.language p s.1 w.threads j.programs traced
+      ap (λ o. and_then (widened File o) after_head) (file_head_is file h j.small ((head_exact file (heading file) refl h).1 j.begins)) ∙ threads_are 64 file n l h.sections h.job.language p s.1 w.threads j.programs traced
 
 pub reported : (file : List ℕ) → Reported file (report_on file)
 reported file =
@@ -183,18 +187,31 @@ reported file =
           followed_lawful w.threads n l 64 (omega arith) w.first w.start trace r (led agree w.led);
     }
   where
-    either : (o : Result Progress Refusal) → StartsWithOk (report_text o) ⊎ StartsWithNo (report_text o)
+    either : (o : Result Progress (Refusal Fault)) → StartsWithOk (report_text o) ⊎ StartsWithNo (report_text o)
     either (Ok p) = inl (_, refl)
     either (Err f) = inr (_, refl)
 
-    by_verdict : (o : Result Progress Refusal) → judged 64 file ≡ o → StartsWithOk (report_text o) → (trace : List Line) × (r : Run) × IsRun file trace r × (report_text o ≡ accepted_text (record { count = length trace; run = r }))
+    by_verdict : (o : Result Progress (Refusal Fault)) → judged 64 file ≡ o → StartsWithOk (report_text o) → (trace : List Line) × (r : Run) × IsRun file trace r × (report_text o ≡ accepted_text (record { count = length trace; run = r }))
     by_verdict (Ok p) e ok = let w = is_run file p e in (w.0, w.1, w.2, ap accepted_text w.3)
     by_verdict (Err f) e ok = let z : ◌≡◌ {A = ℕ} 78 79 = cc ok.1 in absurd (omega arith)
 
 -- what a call answers and leaves is that report
-pub call_reported : (file before : List ℕ) (r : ℕ) (after : List ℕ) → r ≡ answered 64 file (length before) → after ≡ left_in 64 file before → 2400 ≤ length before → Reported file (take r after)
+call_reported : (file before : List ℕ) (r : ℕ) (after : List ℕ) → r ≡ answered 64 file (length before) → after ≡ left_in 64 file before → 2400 ≤ length before → Reported file (take r after)
 call_reported file before r after value is room =
     let text = report_on file in
     let long : r ≡ length text = value ∙ cond-false _ _ _ (le-ltb (length before) 2400 room) in
     let whole : after ≡ text ++ replicate (length before - length text) 0 = is ∙ cond-false _ _ _ (le-ltb (length before) 2400 room) in
     subst (Reported file) (sym (ap (take r) whole ∙ take_at text _ r (sym long))) (reported file)
+
+-- and so is what is written by what was found of the file
+pub record Call (file before : List ℕ) (r : ℕ) (end : List ℕ) : Type 0 where
+  pub value : r ≡ answered 64 file (length before)
+  pub after : end ≡ left_in 64 file before
+  pub law : 2400 ≤ length before → Reported file (take r end)
+
+pub call : (file before : List ℕ) (found : Result (List ℕ) (Refusal Fault)) (r : ℕ) (after : List ℕ) → found ≡ told (judged 64 file)
+    → r ≡ answer (said fault_number fault_layer found) (length before) → after ≡ left (said fault_number fault_layer found) before → Call file before r after
+call file before found r after e value is =
+    let v = value ∙ ap (λ o. answer (said fault_number fault_layer o) (length before)) e in
+    let a = is ∙ ap (λ o. left (said fault_number fault_layer o) before) e in
+    record { value = v; after = a; law = call_reported file before r after v a }

@@ -6,7 +6,7 @@ use Rattle.lines.specs.Families.{reads}
 use Rattle.lines.specs.TraceLines.{trace_lines}
 use Rattle.lines.proofs.Options.{err_ok, ok_same}
 use Rattle.lines.proofs.Sections.{step_shorter}
-use Rattle.lines.proofs.TraceCodec.{trace_codec}
+use Rattle.lines.specs.TraceCodec.{trace_codec}
 use Rattle.lines.proofs.Walked.{walk_stop, walk_more}
 use Rattle.lines.specs.declared.refusal.LineRefusal.{LineRefusal}
 use Rattle.lines.specs.Walks.{walk}
@@ -14,15 +14,16 @@ use Rattle.rules.specs.declared.fault.StepFault.{StepFault}
 use Rattle.rules.specs.Models.{Run}
 use Rattle.rules.specs.Rules.{Tried, went, refused, Agrees, line_result}
 use Rattle.whole_judge.specs.declared.fault.Fault.{Fault}
-use Rattle.whole_judge.specs.declared.fault.Fault.TheVariants.{Line, Step, Unfinished}
+use Rattle.jobs.specs.declared.fault.FileFault.TheVariants.{Line}
+use Rattle.whole_judge.specs.declared.fault.Fault.TheVariants.{File, Step, Unfinished}
 use Rattle.whole_judge.specs.Traces.{Progress, step_taken, line_taken, counted, one_line, finished, Took, Follows}
-use Rattle.whole_judge.specs.Heads.{and_then}
+use Rattle.jobs.specs.Heads.{and_then}
 use Rattle.whole_judge.proofs.Traced.{trace_takes}
 use Rattle.run.specs.Reports.{is_between}
 use Rattle.std.proofs.lemmas.Bool.{cond-true, cond-false}
 
 -- a line that is not read, one that the run refuses, and one that it accepts
-pub not_read : (o : Result (trace.Line × List ℕ) LineFault) (f : LineFault) (r run : Run) (rest : List ℕ) (x : Result (Unit {0}) Fault) → o ≡ Err f → x ≡ Err (Line f) → Took (line_taken r o) x run rest
+pub not_read : (o : Result (trace.Line × List ℕ) LineFault) (f : LineFault) (r run : Run) (rest : List ℕ) (x : Result (Unit {0}) Fault) → o ≡ Err f → x ≡ Err (File (Line f)) → Took (line_taken r o) x run rest
 not_read o f r run rest x e is = subst (λ p. Took (line_taken r p) x run rest) (sym e) is
 
 module _ (o : Result (trace.Line × List ℕ) LineFault) (line : trace.Line) (rest : List ℕ) (r : Run) (was : o ≡ Ok (line, rest)) where

@@ -6,7 +6,7 @@ use Rattle.lines.specs.Families.{all_spelled}
 use Rattle.lines.specs.TraceLines.{trace_lines, TraceFits}
 use Rattle.lines.proofs.Options.{err_ok, ok_same}
 use Rattle.lines.proofs.Sections.{Chain, Takes, walked_lines, lines_walked}
-use Rattle.lines.proofs.TraceCodec.{trace_codec}
+use Rattle.lines.specs.TraceCodec.{trace_codec}
 use Rattle.languages.specs.Behaviours.{Behaviour}
 use Rattle.stores.specs.declared.message.Message.{Message}
 use Rattle.stores.specs.Memory.{zero_message}

@@ -1,7 +1,7 @@
 -- The verdict on a file, put together.
-use Rattle.std.proofs.Common.{◌≡◌, ℕ, ◌+◌, ◌≤◌, cond, ◌&&◌, ltb, leb, List, [], ◌∷◌, map, length, get_or, take, drop, Ok, Err, Result, sym, refl, ap, ◌∙◌, subst, arith, le-ltb}
+use Rattle.std.proofs.Common.{◌≡◌, ℕ, ◌+◌, ◌≤◌, cond, ◌&&◌, ltb, leb, List, [], map, length, get_or, take, drop, Ok, Err, Result, sym, refl, ap, ◌∙◌, arith}
 use native.Mathlib.Nat.{min-le_right}
-use Rattle.std.proofs.lemmas.List.{length-take, length-drop, take-map, take-take, get_or-take}
+use Rattle.std.proofs.lemmas.List.{length-take, length-drop, take-map, take-take}
 use Rattle.std.proofs.lemmas.Bool.{cond_both}
 use Rattle.lines.specs.declared.refusal.LineRefusal.{LineRefusal}
 use Rattle.lines.proofs.Options.{err_ok, ok_same}
@@ -16,39 +16,39 @@ use Rattle.rules.specs.declared.fault.StepFault.TheVariants.{Range, Store}
 use Rattle.rules.specs.Models.{Run, between, fresh}
 use Rattle.rules.specs.Rules.{Tried, went, refused, initials, made}
 use Rattle.whole_judge.specs.declared.fault.Fault.{Fault}
-use Rattle.whole_judge.specs.declared.fault.Fault.TheVariants.{Step, Unfinished}
-use Rattle.whole_judge.specs.declared.fault.Refusal.{Refusal}
-use Rattle.whole_judge.specs.Heads.{and_then, Heading, heading}
+use Rattle.whole_judge.specs.declared.fault.Fault.TheVariants.{File, Step, Unfinished}
+use Rattle.jobs.specs.declared.fault.Refusal.{Refusal}
+use Rattle.jobs.specs.declared.fault.FileFault.{FileFault}
+use Rattle.jobs.specs.Faults.{in_section, widened}
+use Rattle.jobs.specs.Heads.{and_then, Heading, file_heading}
 use Rattle.run.specs.Reports.{is_between}
-use Rattle.whole_judge.specs.declared.section.Section.{Section}
-use Rattle.whole_judge.specs.Programs.{cut, programs_after}
+use Rattle.jobs.specs.declared.section.Section.{Section}
+use Rattle.jobs.specs.Programs.{cut, nowhere, programs_after}
 use Rattle.whole_judge.specs.Traces.{Progress, finished, trace_judged, Follows}
-use Rattle.whole_judge.specs.Verdicts.{nowhere, run_made, trace_in, with_trace, read_as, read_in, judged}
-use Rattle.whole_judge.specs.Reports.{accepted_text, Reports}
-use Rattle.whole_judge.specs.Writing.{over}
+use Rattle.whole_judge.specs.Verdicts.{run_made, with_trace, read_as, read_in, judged}
+use Rattle.whole_judge.specs.Reports.{accepted_text, told}
 
-module _ (t : Tried Run) (judge : Run → Result Progress (LineRefusal Fault)) (s : ℕ) (before : List ℕ) where
-  abbrev verdict : Result Progress Refusal
-  verdict = and_then (run_made t) (λ r. trace_in s (judge r))
+-- the verdict of a run that is made and judged
+module _ (t : Tried Run) (judge : Run → Result Progress (LineRefusal Fault)) (s : ℕ) where
+  abbrev verdict : Result Progress (Refusal Fault)
+  verdict = and_then (run_made t) (λ r. in_section (λ f. f) s (judge r))
 
-  pub not_made : (e : StepFault) (x : Result ℕ Refusal) → refused e ≡ t → x ≡ Err (record { fault = Step e; section = 0; line = 1 }) → Reports verdict before x before
-  not_made e x is answer = subst (λ q. Reports (and_then (run_made q) (λ r. trace_in s (judge r))) before x before) is (answer, refl)
+  pub not_made : (e : StepFault) → refused e ≡ t → Err (record { fault = Step e; section = 0; line = 1 }) ≡ told verdict
+  not_made e is = ap (λ q. told (and_then (run_made q) (λ r. in_section (λ f. f) s (judge r)))) is
 
   module _ (first run : Run) (is : went first ≡ t) where
-    pub trace_refused : (e : LineRefusal Fault) → Follows (judge first) (Err e) run → Reports verdict before (Err (record { fault = e.fault; section = s; line = e.line })) before
-    trace_refused e h = subst (λ q. Reports (and_then (run_made q) (λ r. trace_in s (judge r))) before (Err (record { fault = e.fault; section = s; line = e.line })) before) is (go (judge first) h)
+    pub trace_refused : (e : LineRefusal Fault) → Follows (judge first) (Err e) run → Err (record { fault = e.fault; section = s; line = e.line }) ≡ told verdict
+    trace_refused e h = go (judge first) h ∙ ap (λ q. told (and_then (run_made q) (λ r. in_section (λ f. f) s (judge r)))) is
       where
-        go : (o : Result Progress (LineRefusal Fault)) → Follows o (Err e) run → Reports (trace_in s o) before (Err (record { fault = e.fault; section = s; line = e.line })) before
+        go : (o : Result Progress (LineRefusal Fault)) → Follows o (Err e) run → Err (record { fault = e.fault; section = s; line = e.line }) ≡ told (in_section (λ f. f) s o)
         go (Ok p) h = absurd (err_ok h.0)
-        go (Err f) h = let same : e ≡ f = cc in (ap (λ g. Err (record { fault = g.fault; section = s; line = g.line })) same, refl)
+        go (Err f) h = let same : e ≡ f = cc in ap (λ g. Err (record { fault = g.fault; section = s; line = g.line })) same
 
-    pub trace_accepted : (k x : ℕ) (after : List ℕ) → Follows (judge first) (Ok k) run → x ≡ length (accepted_text (record { count = k; run = run })) → after ≡ over before 0 (accepted_text (record { count = k; run = run })) → Reports verdict before (Ok x) after
-    trace_accepted k x after h long is-over = subst (λ q. Reports (and_then (run_made q) (λ r. trace_in s (judge r))) before (Ok x) after) is (go (judge first) h)
+    pub trace_accepted : (k : ℕ) → Follows (judge first) (Ok k) run → Ok (accepted_text (record { count = k; run = run })) ≡ told verdict
+    trace_accepted k h = go (judge first) h ∙ ap (λ q. told (and_then (run_made q) (λ r. in_section (λ f. f) s (judge r)))) is
       where
-        go : (o : Result Progress (LineRefusal Fault)) → Follows o (Ok k) run → Reports (trace_in s o) before (Ok x) after
-        go (Ok p) h =
-            let same : record { count = k; run = run } ≡ p = λ i. record { count = ok_same h.0 i; run = h.1 i } in
-            (ap Ok (long ∙ ap (λ q. length (accepted_text q)) same), is-over ∙ ap (λ q. over before 0 (accepted_text q)) same)
+        go : (o : Result Progress (LineRefusal Fault)) → Follows o (Ok k) run → Ok (accepted_text (record { count = k; run = run })) ≡ told (in_section (λ f. f) s o)
+        go (Ok p) h = λ i. Ok (accepted_text (record { count = ok_same h.0 i; run = h.1 i }))
         go (Err f) h = absurd (err_ok (sym h))
 
 -- a trace that was accepted was followed to its end
@@ -62,17 +62,6 @@ cut_within file s =
     let a = length-take s.length (drop s.offset file) in
     let b = length-drop s.offset file in
     omega (arith, min-le_right s.length (length (drop s.offset file)))
-
--- what four threads do, by their programs
-pub four_threads : {I : Type 0} (start : List I → Behaviour) (ps : List (Program I)) (d : Program I) (a b c e : Behaviour) → length ps ≡ 4
-    → a ≡ start (program_lines (get_or ps 0 d)) → b ≡ start (program_lines (get_or ps 1 d)) → c ≡ start (program_lines (get_or ps 2 d)) → e ≡ start (program_lines (get_or ps 3 d))
-    → a ∷ b ∷ c ∷ e ∷ [] ≡ map start (map program_lines ps)
-four_threads start [] d a b c e h p q r s = absurd (omega arith)
-four_threads start (w ∷ []) d a b c e h p q r s = absurd (omega arith)
-four_threads start (w ∷ (x ∷ [])) d a b c e h p q r s = absurd (omega arith)
-four_threads start (w ∷ (x ∷ (y ∷ []))) d a b c e h p q r s = absurd (omega arith)
-four_threads start (w ∷ (x ∷ (y ∷ (z ∷ [])))) d a b c e h p q r s = λ i. p i ∷ q i ∷ r i ∷ s i ∷ []
-four_threads start (w ∷ (x ∷ (y ∷ (z ∷ (v ∷ ps))))) d a b c e h p q r s = absurd (omega arith)
 
 -- only the first n threads count
 made_first : (bs bs' : List Behaviour) (n l capacity : ℕ) → take n (map fresh bs) ≡ take n (map fresh bs') → made bs n l capacity ≡ made bs' n l capacity
@@ -88,25 +77,28 @@ first_threads start n ps =
     sym (ap (take n) outer ∙ take-take n n (map fresh (map start (map program_lines ps))) (omega arith))
 
 -- a run of the programs that were read
-pub programs_reported : {I : Type 0} (reads : List ℕ → Result (I × List ℕ) LineFault) (start : List I → Behaviour) (capacity : ℕ) (file : List ℕ) (n l : ℕ) (ss : List Section) (ps : List (Program I)) (bs : List Behaviour) (before : List ℕ) (r : Result ℕ Refusal) (after : List ℕ)
-    → Ok (map program_lines (take n ps)) ≡ programs_after reads file 1 [] (take n ss) → bs ≡ map start (map program_lines ps) → Reports (with_trace capacity file n l ss bs) before r after
-    → Reports (read_as reads start capacity file n l ss) before r after
-programs_reported reads start capacity file n l ss ps bs before r after read is h =
-    let same : with_trace capacity file n l ss bs ≡ with_trace capacity file n l ss (map start (map program_lines (take n ps))) =
-    ap (λ t. and_then (run_made t) (λ q. trace_in (n + 1) (trace_judged n l q (cut file (get_or ss n nowhere))))) (ap (λ b. made b n l capacity) is ∙ made_first (map start (map program_lines ps)) (map start (map program_lines (take n ps))) n l capacity (first_threads start n ps)) in
-    subst (λ o. Reports o before r after) (same ∙ ap (λ o. and_then o (λ qs. with_trace capacity file n l ss (map start qs))) read) h
+pub programs_told : {I : Type 0} (reads : List ℕ → Result (I × List ℕ) LineFault) (start : List I → Behaviour) (capacity : ℕ) (file : List ℕ) (n l : ℕ) (ss : List Section) (ps : List (Program I)) (bs : List Behaviour)
+    → Ok (map program_lines (take n ps)) ≡ programs_after reads file 1 [] (take n ss) → bs ≡ map start (map program_lines ps)
+    → told (with_trace capacity file n l ss bs) ≡ told (read_as reads start capacity file n l ss)
+programs_told reads start capacity file n l ss ps bs read is =
+    ap (λ t. told (and_then (run_made t) (λ q. in_section (λ f. f) (n + 1) (trace_judged n l q (cut file (get_or ss n nowhere)))))) (ap (λ b. made b n l capacity) is ∙ made_first (map start (map program_lines ps)) (map start (map program_lines (take n ps))) n l capacity (first_threads start n ps))
+    ∙ ap (λ o. told (and_then (widened File o) (λ qs. with_trace capacity file n l ss (map start qs)))) read
 
--- sections past the trace do not count
-same_sections : {I : Type 0} (reads : List ℕ → Result (I × List ℕ) LineFault) (start : List I → Behaviour) (capacity : ℕ) (file : List ℕ) (n l : ℕ) (ss : List Section) → read_as reads start capacity file n l (take (n + 1) ss) ≡ read_as reads start capacity file n l ss
-same_sections reads start capacity file n l ss =
-    rw (take-take n (n + 1) ss (omega arith), get_or-take (n + 1) ss n nowhere (omega arith))
+-- programs that were not read
+pub programs_not_told : {I : Type 0} (reads : List ℕ → Result (I × List ℕ) LineFault) (start : List I → Behaviour) (capacity : ℕ) (file : List ℕ) (n l : ℕ) (ss : List Section) (e : Refusal FileFault)
+    → Err e ≡ programs_after reads file 1 [] (take n ss) → Err (record { fault = File e.fault; section = e.section; line = e.line }) ≡ told (read_as reads start capacity file n l ss)
+programs_not_told reads start capacity file n l ss e read = ap (λ o. told (and_then (widened File o) (λ qs. with_trace capacity file n l ss (map start qs)))) read
 
--- a file of allowed size, with this head
-module _ (capacity : ℕ) (file : List ℕ) (h : Heading) (small : length file ≤ 65535) (e : heading file ≡ Ok h) where
-  judged_is : judged capacity file ≡ read_in h.job.language capacity file h.job.threads h.job.locations h.sections
-  judged_is = rw (le-ltb 65535 (length file) small, e)
+-- a file with this head
+head_told : (capacity : ℕ) (file : List ℕ) (h : Heading) → Ok h ≡ file_heading file → read_in h.job.language capacity file h.job.threads h.job.locations h.sections ≡ judged capacity file
+head_told capacity file h e = ap (λ o. and_then (widened File o) (λ g. read_in g.job.language capacity file g.job.threads g.job.locations g.sections)) e
 
-  pub judged_reported : {I : Type 0} (reads : List ℕ → Result (I × List ℕ) LineFault) (start : List I → Behaviour) (ss : List Section) (before : List ℕ) (r : Result ℕ Refusal) (after : List ℕ)
-      → read_in h.job.language capacity file h.job.threads h.job.locations h.sections ≡ read_as reads start capacity file h.job.threads h.job.locations (take (h.job.threads + 1) ss)
-      → Reports (read_as reads start capacity file h.job.threads h.job.locations ss) before r after → Reports (judged capacity file) before r after
-  judged_reported reads start ss before r after is report = subst (λ o. Reports o before r after) (sym (judged_is ∙ is ∙ same_sections reads start capacity file h.job.threads h.job.locations ss)) report
+-- and one whose head was refused
+pub no_head_told : (capacity : ℕ) (file : List ℕ) (e : Refusal FileFault) → Err e ≡ file_heading file → Err (record { fault = File e.fault; section = e.section; line = e.line }) ≡ told (judged capacity file)
+no_head_told capacity file e is = ap (λ o. told (and_then (widened File o) (λ g. read_in g.job.language capacity file g.job.threads g.job.locations g.sections))) is
+
+-- in one language
+module _ (capacity : ℕ) (file : List ℕ) (h : Heading) (e : Ok h ≡ file_heading file) {I : Type 0} (reads : List ℕ → Result (I × List ℕ) LineFault) (start : List I → Behaviour)
+    (chosen : read_in h.job.language capacity file h.job.threads h.job.locations h.sections ≡ read_as reads start capacity file h.job.threads h.job.locations h.sections) where
+  pub read_told : told (read_as reads start capacity file h.job.threads h.job.locations h.sections) ≡ told (judged capacity file)
+  read_told = ap told (sym chosen ∙ head_told capacity file h e)

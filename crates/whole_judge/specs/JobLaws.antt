@@ -16,13 +16,12 @@ use Rattle.rules.specs.Rules.{went, made}
 use Rattle.rules.specs.Steps.{Step}
 use Rattle.rules.specs.Histories.{no_turn, placed, history}
 use Rattle.rules.specs.Laws.{Lawful}
-use Rattle.whole_judge.specs.declared.job.LanguageChoice.{LanguageChoice}
-use Rattle.whole_judge.specs.declared.job.LanguageChoice.TheVariants.{Registers, Strips}
-use Rattle.whole_judge.specs.declared.section.Section.{Section}
-use Rattle.whole_judge.specs.Heads.{Heading}
-use Rattle.whole_judge.specs.HeadLaws.{Begins}
-use Rattle.whole_judge.specs.Programs.{cut}
-use Rattle.whole_judge.specs.Verdicts.{nowhere}
+use Rattle.jobs.specs.declared.job.LanguageChoice.{LanguageChoice}
+use Rattle.jobs.specs.declared.job.LanguageChoice.TheVariants.{Registers, Strips}
+use Rattle.jobs.specs.declared.section.Section.{Section}
+use Rattle.jobs.specs.Heads.{Heading}
+use Rattle.jobs.specs.HeadLaws.{Begins}
+use Rattle.jobs.specs.Programs.{cut, nowhere}
 use Rattle.whole_judge.specs.Reports.{accepted_text}
 
 -- a section is the spelling of these lines, all in range, and nothing else

@@ -1,16 +1,18 @@
 -- The report.
-use Rattle.std.specs.Prelude.{◌≡◌, ℕ, zero, suc, ◌+◌, ◌-◌, cond, List, [], ◌∷◌, ◌++◌, length, replicate, Some, None, Ok, Err, Option, Result, nat_lt}
+use Rattle.std.specs.Prelude.{ℕ, zero, suc, ◌+◌, List, [], ◌∷◌, ◌++◌, Some, None, Ok, Err, Option, Result}
 use Rattle.lines.specs.Spelling.{spelled}
 use Rattle.stores.specs.declared.message.Message.{Message}
 use Rattle.stores.specs.declared.view.View.{View}
 use Rattle.stores.specs.Views.{at}
 use Rattle.rules.specs.Models.{Run}
 use Rattle.run.specs.Reports.{owing_thread}
-use Rattle.whole_judge.specs.declared.fault.Refusal.{Refusal}
+use Rattle.jobs.specs.declared.fault.Refusal.{Refusal}
+use Rattle.jobs.specs.Reports.{said}
+use Rattle.jobs.specs.Texts.{texts, answer, left}
+use Rattle.whole_judge.specs.declared.fault.Fault.{Fault}
 use Rattle.whole_judge.specs.Faults.{fault_number, fault_layer}
 use Rattle.whole_judge.specs.Traces.{Progress}
 use Rattle.whole_judge.specs.Verdicts.{judged}
-use Rattle.whole_judge.specs.Writing.{over, texts}
 
 -- 0, or the owing thread plus 1
 abbrev pub owner : Option ℕ → ℕ
@@ -19,7 +21,7 @@ owner (Some i) = i + 1
 
 -- m x f t v w, with who owes the message
 abbrev pub message_line : Message → Option ℕ → List ℕ
-message_line m who = spelled 109 (m.location ∷ m.from ∷ m.to ∷ m.value ∷ owner who ∷ [])
+message_line m who = spelled 109 (m.location ∷ m.span.from ∷ m.span.to ∷ m.value ∷ owner who ∷ [])
 
 abbrev pub messages_text : Run → List ℕ
 messages_text r = texts (λ k m. message_line m (owing_thread k r.threads)) 0 r.memory
@@ -44,13 +46,13 @@ prints_text r = texts (λ _ p. spelled 112 (p.0 ∷ p.1 ∷ [])) 0 r.log
 abbrev pub accepted_text : Progress → List ℕ
 accepted_text p = (79 ∷ spelled 75 (p.count ∷ [])) ++ (messages_text p.run ++ (views_text p.run ++ prints_text p.run))
 
--- NO with number, layer, section and line
-abbrev pub refused_text : Refusal → List ℕ
-refused_text r = 78 ∷ spelled 79 (fault_number r.fault ∷ fault_layer r.fault ∷ r.section ∷ r.line ∷ [])
+-- the report where the file is accepted, its refusal where not
+abbrev pub told : Result Progress (Refusal Fault) → Result (List ℕ) (Refusal Fault)
+told (Ok p) = Ok (accepted_text p)
+told (Err e) = Err e
 
-abbrev pub report_text : Result Progress Refusal → List ℕ
-report_text (Ok p) = accepted_text p
-report_text (Err r) = refused_text r
+abbrev pub report_text : Result Progress (Refusal Fault) → List ℕ
+report_text o = said fault_number fault_layer (told o)
 
 -- the report on a file, judged in a store of this capacity
 abbrev pub report_in : ℕ → List ℕ → List ℕ
@@ -62,14 +64,8 @@ report_on file = report_in 64 file
 
 -- what a call answers, by the length of its buffer: nothing where that is under 2,400
 abbrev pub answered : ℕ → List ℕ → ℕ → ℕ
-answered capacity file n = cond (nat_lt n 2400) 0 (length (report_in capacity file))
+answered capacity file n = answer (report_in capacity file) n
 
 -- and what it leaves there: the report, then zeros to the last byte
 abbrev pub left_in : ℕ → List ℕ → List ℕ → List ℕ
-left_in capacity file buffer =
-    cond (nat_lt (length buffer) 2400) buffer (report_in capacity file ++ replicate (length buffer - length (report_in capacity file)) 0)
-
--- an accepted run is written at the front of the buffer; where there is a refusal, it is answered and nothing is written
-abbrev pub Reports : Result Progress Refusal → List ℕ → Result ℕ Refusal → List ℕ → Type 0
-Reports (Ok p) before r after = (r ≡ Ok (length (accepted_text p))) × (after ≡ over before 0 (accepted_text p))
-Reports (Err e) before r after = (r ≡ Err e) × (after ≡ before)
+left_in capacity file buffer = left (report_in capacity file) buffer

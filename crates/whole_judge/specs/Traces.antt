@@ -1,5 +1,5 @@
 -- The trace of a job, line by line on a run.
-use Rattle.std.specs.Prelude.{◌≡◌, ℕ, ◌+◌, cond, List, Ok, Err, Result}
+use Rattle.std.specs.Prelude.{◌≡◌, ℕ, ◌+◌, if◌then◌else◌, List, Ok, Err, Result}
 use Rattle.lines.specs.declared.reader.LineFault.{LineFault}
 use Rattle.lines.specs.declared.refusal.LineRefusal.{LineRefusal}
 use Rattle.lines.specs.declared.trace.Line as trace
@@ -10,8 +10,9 @@ use Rattle.rules.specs.Models.{Run}
 use Rattle.rules.specs.Rules.{Tried, went, refused, line_result}
 use Rattle.run.specs.Reports.{is_between}
 use Rattle.whole_judge.specs.declared.fault.Fault.{Fault}
-use Rattle.whole_judge.specs.declared.fault.Fault.TheVariants.{Line, Step, Unfinished}
-use Rattle.whole_judge.specs.Heads.{and_then}
+use Rattle.jobs.specs.declared.fault.FileFault.TheVariants.{Line}
+use Rattle.whole_judge.specs.declared.fault.Fault.TheVariants.{File, Step, Unfinished}
+use Rattle.jobs.specs.Heads.{and_then}
 
 -- the run after a line, and what follows the line in the section
 abbrev pub step_taken : List ℕ → Tried Run → Result (Run × List ℕ) Fault
@@ -19,7 +20,7 @@ step_taken rest (went r) = Ok (r, rest)
 step_taken rest (refused e) = Err (Step e)
 
 abbrev pub line_taken : Run → Result (trace.Line × List ℕ) LineFault → Result (Run × List ℕ) Fault
-line_taken r (Err f) = Err (Line f)
+line_taken r (Err f) = Err (File (Line f))
 line_taken r (Ok p) = step_taken p.1 (line_result p.0 r)
 
 -- the lines that were accepted, and the run that they led to
@@ -41,7 +42,7 @@ followed n l r bs = walked (one_line n l) (record { count = 0; run = r }) bs
 
 -- a trace ends between turns
 abbrev pub finished : Progress → Result Progress (LineRefusal Fault)
-finished s = cond (is_between s.run.phase) (Ok s) (Err (record { fault = Unfinished; line = s.count }))
+finished s = if is_between s.run.phase then Ok s else Err (record { fault = Unfinished; line = s.count })
 
 abbrev pub trace_judged : ℕ → ℕ → Run → List ℕ → Result Progress (LineRefusal Fault)
 trace_judged n l r bs = and_then (followed n l r bs) finished

@@ -1,52 +1,39 @@
 // Why a file is refused, and where.
 ghost use Rattle.std.specs.Prelude.{◌≡◌};
-ghost use Rattle.whole_judge.specs.declared.fault.Fault.TheVariants.{Line as LineOf, Step as StepOf};
-ghost use Rattle.whole_judge.specs.Faults.{fault_number, fault_layer, program_fault};
+ghost use Rattle.jobs.specs.declared.fault.FileFault.TheVariants.{Line as LineOf};
+ghost use Rattle.whole_judge.specs.declared.fault.Fault.TheVariants.{File as FileOf, Step as StepOf};
+ghost use Rattle.whole_judge.specs.Faults.{fault_number, fault_layer};
 
-use languages::read_program::ProgramFault;
+use jobs::fault::{FileFault, Numbered};
+use lines::layer::Layer;
 use lines::reader::LineFault;
 use rules::fault::StepFault;
 
-#[derive(Clone, Copy)]
+#[derive(Clone, Copy, PartialEq, Eq, Debug)]
 pub enum Fault {
-    // the file is over 65,535 bytes
-    FileSize,
-    // a line is not of its form, or a field is out of range
-    Line(LineFault),
-    // the sections do not tile the rest of the file
-    Sections,
-    // program line 65
-    TooManyLines,
+    // the file is not of its form
+    File(FileFault),
     // the run refused a line of the trace
     Step(StepFault),
     // the trace ends in a turn or a showing
     Unfinished,
 }
 
-// A fault with its section, 0 for the head, and its line in the section, from 1.
-#[derive(Clone, Copy)]
-pub struct Refusal {
-    pub fault: Fault,
-    pub section: u8,
-    pub line: usize,
-}
+pub type Refusal = jobs::fault::Refusal<Fault>;
 
-impl From<LineFault> for Fault {
-    ghost from_gives = { λ f e. e ≡ LineOf f };
+impl From<FileFault> for Fault {
+    ghost from_gives = { λ f e. e ≡ FileOf f };
 
-    fn from(fault: LineFault) -> Fault {
-        Fault::Line(fault)
+    fn from(fault: FileFault) -> Fault {
+        Fault::File(fault)
     }
 }
 
-impl From<ProgramFault> for Fault {
-    ghost from_gives = { λ f e. e ≡ program_fault f };
+impl From<LineFault> for Fault {
+    ghost from_gives = { λ f e. e ≡ FileOf (LineOf f) };
 
-    fn from(fault: ProgramFault) -> Fault {
-        match fault {
-            ProgramFault::Line(fault) => Fault::Line(fault),
-            ProgramFault::TooMany => Fault::TooManyLines,
-        }
+    fn from(fault: LineFault) -> Fault {
+        Fault::File(fault.into())
     }
 }
 
@@ -58,43 +45,24 @@ impl From<StepFault> for Fault {
     }
 }
 
-// A run that cannot be made is refused at the J line, which asks for it.
-impl From<StepFault> for Refusal {
-    ghost from_gives = { λ f e. e ≡ record { fault = StepOf f; section = 0; line = 1 } };
+impl Numbered for Fault {
+    ghost numbered = { fault_number };
 
-    fn from(fault: StepFault) -> Refusal {
-        Refusal {
-            fault: fault.into(),
-            section: 0,
-            line: 1,
-        }
-    }
-}
+    ghost layered = { fault_layer };
 
-impl Fault {
-    // The number of the refusal in a report.
-    pub fn number(self) -> u8
-        ensures { result ≡ fault_number self }
-    {
+    fn number(self) -> u8 {
         match self {
-            Fault::FileSize => 2,
-            Fault::Line(LineFault::Form) => 3,
-            Fault::Line(LineFault::Range) => 4,
-            Fault::Sections => 5,
-            Fault::TooManyLines => 6,
+            Fault::File(fault) => fault.number(),
             Fault::Step(fault) => fault.number(),
             Fault::Unfinished => 17,
         }
     }
 
-    // 0 for the file, 1 for a line, 2 for a step, 3 for a store.
-    pub fn layer(self) -> u8
-        ensures { result ≡ fault_layer self }
-    {
+    fn layer(self) -> Layer {
         match self {
-            Fault::Line(_) => 1,
+            Fault::File(fault) => fault.layer(),
             Fault::Step(fault) => fault.layer(),
-            Fault::FileSize | Fault::Sections | Fault::TooManyLines | Fault::Unfinished => 0,
+            Fault::Unfinished => Layer::File,
         }
     }
 }

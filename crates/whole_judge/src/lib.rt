@@ -3,12 +3,8 @@
 
 mod account;
 pub mod fault;
-pub mod head;
-pub mod job;
-pub mod programs;
 pub mod refused;
 pub mod report;
-pub mod section;
+mod start;
 mod trace;
 pub mod verdict;
-mod write;

@@ -3,7 +3,6 @@ ghost use Rattle.std.specs.Prelude.{◌≡◌};
 ghost use Rattle.whole_judge.specs.Verdicts.{judged, refusal_in};
 
 use crate::fault::Refusal;
-use crate::report::LEAST_REPORT;
 use crate::verdict::report_accepted;
 use rowstore::rows::Rows;
 
@@ -11,9 +10,5 @@ use rowstore::rows::Rows;
 pub fn refusal(file: &[u8]) -> Option<Refusal>
     ensures { result ≡ refusal_in (judged 64 file.now) }
 {
-    let mut report = [0u8; LEAST_REPORT];
-    match report_accepted(file, Rows::new(), &mut report) {
-        Ok(_) => None,
-        Err(refusal) => Some(refusal),
-    }
+    report_accepted(file, Rows::new()).err()
 }

@@ -7,6 +7,7 @@ ghost use Rattle.whole_judge.specs.Traces.{line_taken, followed, trace_judged, T
 
 use crate::fault::Fault;
 use languages::language::Language;
+use lines::family::Spelled;
 use lines::reader::Reader;
 use lines::refusal::LineRefusal;
 use lines::scope::Scope;

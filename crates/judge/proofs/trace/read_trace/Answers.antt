@@ -2,7 +2,7 @@ use Rattle.std.proofs.Common.{◌+◌, ◌<◌, length, sym, ap, ◌∙◌, arit
 use Rattle.lines.specs.Families.{reads}
 use Rattle.lines.specs.TraceLines.{trace_lines}
 use Rattle.lines.proofs.Familiar.{was_read, reads_shorter}
-use Rattle.lines.proofs.TraceCodec.{trace_codec}
+use Rattle.lines.specs.TraceCodec.{trace_codec}
 use Rattle.lines.proofs.Walked.{walk_more}
 use Rattle.judge.specs.Traces.{counts}
 use Rattle.judge.proofs.TraceSteps.{trace_step, trace_shorter}

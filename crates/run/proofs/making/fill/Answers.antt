@@ -2,7 +2,7 @@ use Rattle.std.proofs.Common.{◌≡◌, true, false, leb, Err, sym, ap, ◌∙�
 use Rattle.std.proofs.lemmas.Result.{err_from_is_err_and}
 use Rattle.std.proofs.lemmas.Bool.{cond-true, cond-false}
 use Rattle.rules.specs.Rules.{initials}
-use Rattle.run.proofs.Makings.{only_full, not_both, fill_more, fill_full, fill_done}
+use Rattle.run.proofs.Makings.{only_full, not_both, fill_full, fill_done}
 use Rattle.run.proofs.making.fill.Goals as goal
 
 pub returns-in_err-add : goal.returns-in_err-add
@@ -17,10 +17,6 @@ returns-in_err-add g c =
       after = λ ok. absurd (not_both c.from_residual.result p.0 p.1 ok);
       same = c.add.ensures.same ∙ cap;
     }
-
-pub loop-x-preserved : goal.loop-x-preserved
-loop-x-preserved g c =
-    (fill_more (g.S.Store.capacity c.loop-x.store) c.loop-x.x (g.S.Store.held c.loop-x.store) c.add.result c.loop-x.invariant.0 c.add.ensures.value _ _ _ c.initial.ensures c.in_ok-add.was c.add.ensures.after, c.add.ensures.same ∙ c.loop-x.invariant.1)
 
 pub returns : goal.returns
 returns g c =

@@ -1,33 +1,32 @@
-use Rattle.std.proofs.Common.{◌≡◌, ◌+◌, [], ◌∷◌, ◌++◌, take, sym, refl, ap, ◌∙◌, add-one, arith}
-use Rattle.std.proofs.lemmas.List.{length-set, take_more_set}
+use Rattle.std.proofs.Common.{◌≡◌, ◌+◌, [], ◌∷◌, ◌++◌, length, sym, ap, ◌∙◌, add-one, subst, arith}
+use Rattle.std.proofs.lemmas.Bool.{cond-true, lt-ltb}
 use Rattle.stores.specs.Views.{at}
 use Rattle.rules.specs.Models.{thread_at}
 use Rattle.run.specs.Models.{run_of}
 use Rattle.whole_judge.specs.Reports.{first_ends}
-use Rattle.whole_judge.proofs.Lengths.{narrow_replicate, narrow_set}
+use Rattle.whole_judge.proofs.Ends.{ends_length}
+use Rattle.whole_judge.proofs.Lengths.{Narrow, narrow_push}
 use Rattle.whole_judge.proofs.account.view_numbers.Goals as goal
 
 pub loop-x-init : goal.loop-x-init
-loop-x-init g c = (refl, refl, narrow_replicate 9 c.args.thread (omega arith))
+loop-x-init g c = (c.from_slice-numbers.ensures, subst Narrow (sym c.from_slice-numbers.ensures) (narrow_push [] c.args.thread (omega arith) (λ k. omega arith)))
 
 pub loop-x-preserved : goal.loop-x-preserved
 loop-x-preserved g c =
-    let r = run_of g.L.Language g.S.Store c.args.run.now in
-    let cur = (thread_at r c.args.thread).views.cur in
+    let cur = (thread_at (run_of g.L.Language g.S.Store c.args.run.now) c.args.thread).views.cur in
     let x = c.loop-x.x in
     let numbers = c.loop-x.numbers in
-    let long = c.loop-x.invariant.1 in
+    let ends = ends_length x cur in
+    let same : length numbers ≡ length (c.args.thread ∷ first_ends x cur) = ap length c.loop-x.invariant.0 in
     let few = c.location_count-x-end.ensures.few in
-    let v : c.seen.result ≡ at cur x = c.seen.ensures in
+    let pushed : c.push.new.self ≡ numbers ++ (c.seen.result ∷ []) = c.push.ensures.after ∙ cond-true _ _ _ (lt-ltb (length numbers) 9 (omega arith)) in
     let more : first_ends (x + 1) cur ≡ first_ends x cur ++ (at cur x ∷ []) = ap (λ n. first_ends n cur) (add-one x) in (
-      take_more_set numbers (x + 1) c.seen.result (omega arith) ∙ ap (λ ns. ns ++ (c.seen.result ∷ [])) c.loop-x.invariant.0 ∙ ap (λ e. c.args.thread ∷ (first_ends x cur ++ (e ∷ []))) v ∙ ap (λ es. c.args.thread ∷ es) (sym more),
-      length-set numbers (x + 1) c.seen.result ∙ long,
-      narrow_set numbers (x + 1) c.seen.result (omega arith) c.loop-x.invariant.2,
+      pushed ∙ (λ i. c.loop-x.invariant.0 i ++ (c.seen.ensures i ∷ [])) ∙ ap (λ es. c.args.thread ∷ es) (sym more),
+      subst Narrow (sym pushed) (narrow_push numbers c.seen.result (omega arith) c.loop-x.invariant.1),
     )
 
 pub returns : goal.returns
 returns g c =
-    let r = run_of g.L.Language g.S.Store c.args.run.now in
-    let cur = (thread_at r c.args.thread).views.cur in
-    let e : c.loop-x.x ≡ r.locations = omega (arith, c.location_count-x-end.ensures.value) in
-    record { value = ap (λ n. take (n + 1) c.loop-x.numbers) (sym e) ∙ c.loop-x.invariant.0 ∙ ap (λ n. c.args.thread ∷ first_ends n cur) e; narrow = c.loop-x.invariant.2 }
+    let cur = (thread_at (run_of g.L.Language g.S.Store c.args.run.now) c.args.thread).views.cur in
+    let e : c.loop-x.x ≡ (run_of g.L.Language g.S.Store c.args.run.now).locations = omega (arith, c.location_count-x-end.ensures.value) in
+    record { value = c.loop-x.invariant.0 ∙ ap (λ n. c.args.thread ∷ first_ends n cur) e; narrow = c.loop-x.invariant.1 }

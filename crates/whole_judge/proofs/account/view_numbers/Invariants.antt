@@ -1,10 +1,11 @@
-use Rattle.std.proofs.Common.{◌≡◌, ℕ, ◌+◌, ◌<◌, ◌∷◌, length, get_or, take}
+use Rattle.std.proofs.Common.{◌≡◌, ◌∷◌}
 use Rattle.rules.specs.Models.{thread_at}
 use Rattle.run.specs.Models.{run_of}
 use Rattle.whole_judge.specs.Reports.{first_ends}
+use Rattle.whole_judge.proofs.Lengths.{Narrow}
 use Rattle.whole_judge.proofs.account.view_numbers.Given as goal
 
 abbrev pub invariant-loop-x : goal.invariant-loop-x
 invariant-loop-x g l =
     let r = run_of g.L.Language g.S.Store l.run in
-    (take (l.x + 1) l.numbers ≡ l.thread ∷ first_ends l.x (thread_at r l.thread).views.cur) × (length l.numbers ≡ 9) × ((k : ℕ) → get_or l.numbers k 0 < 65536)
+    (l.numbers ≡ l.thread ∷ first_ends l.x (thread_at r l.thread).views.cur) × Narrow l.numbers

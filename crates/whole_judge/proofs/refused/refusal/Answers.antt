@@ -1,21 +1,19 @@
-use Rattle.std.proofs.Common.{◌≡◌, ℕ, List, Some, None, Ok, Err, Result, sym, refl}
-use Rattle.lines.proofs.Options.{err_ok}
-use Rattle.whole_judge.specs.declared.fault.Refusal.{Refusal}
+use Rattle.std.proofs.Common.{◌≡◌, Ok, Err, Result, refl, ◌∙◌}
+use Rattle.std.specs.Result.{result_err}
+use Rattle.jobs.specs.declared.fault.Refusal.{Refusal}
+use Rattle.jobs.specs.declared.text.Text.{Text}
+use Rattle.whole_judge.specs.declared.fault.Fault.{Fault}
 use Rattle.whole_judge.specs.Traces.{Progress}
 use Rattle.whole_judge.specs.Verdicts.{judged, refusal_in}
-use Rattle.whole_judge.specs.Reports.{Reports}
+use Rattle.jobs.specs.Reports.{told_by}
+use Rattle.whole_judge.specs.Reports.{told}
 use Rattle.whole_judge.proofs.refused.refusal.Goals as goal
 
-none_refused : (o : Result Progress Refusal) (before : List ℕ) (len : ℕ) (after : List ℕ) → Reports o before (Ok len) after → None ≡ refusal_in o
-none_refused (Ok p) before len after h = refl
-none_refused (Err e) before len after h = absurd (err_ok (sym h.0))
+err_is : (r : Result Text (Refusal Fault)) (o : Result Progress (Refusal Fault)) → told_by r ≡ told o → result_err r ≡ refusal_in o
+err_is (Ok t) (Ok p) e = refl
+err_is (Ok t) (Err f) e = cc
+err_is (Err f) (Ok p) e = cc
+err_is (Err f) (Err h) e = cc
 
-was_refused : (o : Result Progress Refusal) (before : List ℕ) (e : Refusal) (after : List ℕ) → Reports o before (Err e) after → Some e ≡ refusal_in o
-was_refused (Ok p) before e after h = absurd (err_ok h.0)
-was_refused (Err f) before e after h = let q = h.0 in cc
-
-pub returns-in-Ok : goal.returns-in-Ok
-returns-in-Ok c = none_refused (judged 64 c.args.file.now) _ _ _ c.in-Ok.ensures
-
-pub returns-in-Err : goal.returns-in-Err
-returns-in-Err c = was_refused (judged 64 c.args.file.now) _ _ _ c.in-Err.ensures
+pub returns : goal.returns
+returns c = c.err.ensures.value ∙ err_is c.report_accepted.result (judged 64 c.args.file.now) c.report_accepted.ensures

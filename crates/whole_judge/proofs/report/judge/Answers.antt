@@ -1,10 +1,8 @@
-use Rattle.whole_judge.proofs.Reported.{call_reported}
+use Rattle.jobs.specs.Reports.{told_by}
+use Rattle.whole_judge.proofs.Reported.{call}
 use Rattle.whole_judge.proofs.report.judge.Goals as goal
 
 pub returns : goal.returns
 returns c =
-    record {
-      value = c.judge_in.ensures.value;
-      after = c.judge_in.ensures.after;
-      law = call_reported c.args.file.now c.args.report.now c.judge_in.result c.judge_in.new.report c.judge_in.ensures.value c.judge_in.ensures.after;
-    }
+    let k = call c.args.file.now c.args.report.now (told_by c.report_accepted.result) _ _ c.report_accepted.ensures c.write_report.ensures.value c.write_report.ensures.after in
+    record { value = k.value; after = k.after; law = k.law }

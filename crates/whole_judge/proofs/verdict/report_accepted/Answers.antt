@@ -1,33 +1,49 @@
-use Rattle.std.proofs.Common.{◌+◌, take, sym, ap}
+use Rattle.std.proofs.Common.{[], sym, ap, ◌∙◌, lit<}
+use mir.Syntax.{erased}
 use Rattle.lines.specs.Families.{reads}
 use Rattle.languages.specs.RegisterLines.{register_lines}
 use Rattle.languages.specs.Registers.{register_start}
 use Rattle.languages.specs.StripLines.{strip_lines}
 use Rattle.languages.specs.Strips.{strip_start}
-use Rattle.whole_judge.specs.Heads.{Heading}
-use Rattle.whole_judge.specs.Jobs.{job_of}
+use Rattle.jobs.specs.Heads.{Heading}
+use Rattle.jobs.specs.Jobs.{job_of}
+use Rattle.jobs.proofs.HeadLaws.{file_head_was}
 use Rattle.whole_judge.specs.Verdicts.{read_in}
-use Rattle.whole_judge.proofs.VerdictSteps.{judged_reported}
+use Rattle.whole_judge.proofs.VerdictSteps.{programs_told, read_told}
 use Rattle.whole_judge.proofs.verdict.report_accepted.Goals as goal
 
-pub returns-in-Registers : goal.returns-in-Registers
-returns-in-Registers g c =
-    let head = c.in_ok-head.head in
-    let file = c.args.file.now in
-    let n = head.job.scope.threads in
-    let l = head.job.scope.locations in
-    let capacity = g.S.Store.capacity c.args.store in
-    let h : Heading = record { job = job_of head.job; sections = take (n + 1) head.sections } in
-    judged_reported capacity file h c.if-file-gt-MOST_FILE.false (sym c.in_ok-head.ensures.value) (reads (register_lines l)) register_start head.sections c.args.out.now c.report_registers.result c.report_registers.new.out
-    (ap (λ g. read_in g capacity file n l (take (n + 1) head.sections)) c.in-Registers.is) c.report_registers.ensures
+pub report_run-requires : goal.report_run-requires
+report_run-requires g c =
+    let head = c.in-Ok.head in
+    let small = file_head_was c.args.file.now (record { job = job_of head.job; sections = head.sections }) (sym c.in-Ok.ensures) in
+    (lit< tt, (c.requires.layout.registers (record { mir = erased; lft = [] }), small.0))
 
-pub returns-in-Strips : goal.returns-in-Strips
-returns-in-Strips g c =
-    let head = c.in_ok-head.head in
+pub report_run-requires-in-Ok-programs-2 : goal.report_run-requires-in-Ok-programs-2
+report_run-requires-in-Ok-programs-2 g c =
+    let head = c.in-Ok.head in
+    let small = file_head_was c.args.file.now (record { job = job_of head.job; sections = head.sections }) (sym c.in-Ok.ensures) in
+    (lit< tt, (c.requires.layout.strips (record { mir = erased; lft = [] }), small.0))
+
+pub returns-in-Ok-programs : goal.returns-in-Ok-programs
+returns-in-Ok-programs g c =
+    let head = c.in-Ok.head in
     let file = c.args.file.now in
     let n = head.job.scope.threads in
     let l = head.job.scope.locations in
     let capacity = g.S.Store.capacity c.args.store in
-    let h : Heading = record { job = job_of head.job; sections = take (n + 1) head.sections } in
-    judged_reported capacity file h c.if-file-gt-MOST_FILE.false (sym c.in_ok-head.ensures.value) (reads (strip_lines l)) strip_start head.sections c.args.out.now c.report_strips.result c.report_strips.new.out
-    (ap (λ g. read_in g capacity file n l (take (n + 1) head.sections)) c.in-Strips.is) c.report_strips.ensures
+    let h : Heading = record { job = job_of head.job; sections = head.sections } in
+    let rs = reads (register_lines l) in
+    c.report_run.ensures ∙ programs_told rs register_start capacity file n l head.sections c.in-Ok-programs.programs _ c.in-Ok-programs.ensures c.threads.ensures
+    ∙ read_told capacity file h c.in-Ok.ensures rs register_start (ap (λ x. read_in x capacity file n l head.sections) c.in-Registers.is)
+
+pub returns-in-Ok-programs-2 : goal.returns-in-Ok-programs-2
+returns-in-Ok-programs-2 g c =
+    let head = c.in-Ok.head in
+    let file = c.args.file.now in
+    let n = head.job.scope.threads in
+    let l = head.job.scope.locations in
+    let capacity = g.S.Store.capacity c.args.store in
+    let h : Heading = record { job = job_of head.job; sections = head.sections } in
+    let rs = reads (strip_lines l) in
+    c.report_run-in-Ok-programs-2.ensures ∙ programs_told rs strip_start capacity file n l head.sections c.in-Ok-programs-2.programs _ c.in-Ok-programs-2.ensures c.threads-in-Ok-programs-2.ensures
+    ∙ read_told capacity file h c.in-Ok.ensures rs strip_start (ap (λ x. read_in x capacity file n l head.sections) c.in-Strips.is)

@@ -1,10 +1,9 @@
-use Rattle.std.proofs.Common.{◌≡◌, ◌+◌, ◌-◌, ◌≤◌, length, drop, Some}
-use Rattle.lines.specs.Fields.{digits}
-use Rattle.lines.proofs.Numbers.{read_on}
+use Rattle.std.proofs.Common.{length}
+use Rattle.lines.proofs.Numbers.{ReadTo}
 use Rattle.lines.proofs.reader.Reader.number.Given as goal
 
-abbrev pub invariant-loop-n : goal.invariant-loop-n
-invariant-loop-n l = (l.n ≤ length l.bytes) × (read_on l.most l.number (drop l.n l.bytes) ≡ read_on l.most (Some 0) l.bytes) × (l.n + length (digits (drop l.n l.bytes)) ≡ length (digits l.bytes))
+abbrev pub invariant-loop-rest : goal.invariant-loop-rest
+invariant-loop-rest l = ReadTo l.most l.self.rest.now l.number l.rest
 
-abbrev pub decreases-loop-n : goal.decreases-loop-n
-decreases-loop-n l = length l.bytes - l.n
+abbrev pub decreases-loop-rest : goal.decreases-loop-rest
+decreases-loop-rest l = length l.rest

@@ -1,7 +1,6 @@
-use Rattle.std.proofs.Common.{◌≡◌, ℕ, ◌<◌, ◌≤◌}
-use Rattle.rowstore.specs.Tables.{row_at, KeptBelow}
+use Rattle.rowstore.specs.Entries.{earlier}
+use Rattle.rowstore.proofs.InPlace.{MapsInPlace}
 use Rattle.rowstore.proofs.index.Index.keep.Given as goal
 
-abbrev pub invariant-loop-y : goal.invariant-loop-y
-invariant-loop-y l =
-    ((y : ℕ) → y < l.y → KeptBelow l.n (row_at l.initial.self y) (row_at l.self y)) × ((y : ℕ) → l.y ≤ y → row_at l.self y ≡ row_at l.initial.self y)
+abbrev pub invariant-loop-row : goal.invariant-loop-row
+invariant-loop-row l = MapsInPlace (earlier l.n) l.initial.row-items l.row-items l.row-index

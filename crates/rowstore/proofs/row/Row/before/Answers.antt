@@ -1,30 +1,15 @@
-use Rattle.std.proofs.Common.{◌≡◌, ◌+◌, ◌-◌, ◌/◌, ◌<◌, length, ap, arith}
-use Rattle.std.proofs.lemmas.List.{get_or-take, length-take-le}
+use Rattle.std.proofs.Common.{ltb, sym, ap, ◌∙◌, subst, rules, tests}
+use Rattle.std.proofs.lemmas.List.Sorted.{IsPartitionedBy-ltb, IsPartitionPoint-from_clause}
 use Rattle.rowstore.specs.declared.entry.Entry.{Entry}
-use Rattle.rowstore.specs.Entries.{listed, no_entry}
-use Rattle.rowstore.proofs.Fronts.{before_is}
+use Rattle.rowstore.specs.Entries.{before, InOrder}
+use Rattle.rowstore.proofs.Fronts.{partition_is}
 use Rattle.rowstore.proofs.row.Row.before.Goals as goal
 
-pub loop-low-preserved-then-from-limit : goal.loop-low-preserved-then-from-limit
-loop-low-preserved-then-from-limit c =
-    let w = c.args.self.now in
-    let m = c.loop-low.low + (c.loop-low.high - c.loop-low.low) / 2 in
-    let l : length (listed w) ≡ w.len = length-take-le w.len w.entries (omega arith) in
-    let a : m < w.len = omega arith in
-    let e = ap (λ (x : Entry). x.to) (get_or-take w.len w.entries m no_entry a) in
-    (omega arith, omega arith, (λ i h. let o = c.requires.order i m (omega arith) (omega arith) in omega arith), c.loop-low.invariant.3)
-
-pub loop-low-preserved : goal.loop-low-preserved
-loop-low-preserved c =
-    let w = c.args.self.now in
-    let m = c.loop-low.low + (c.loop-low.high - c.loop-low.low) / 2 in
-    let l : length (listed w) ≡ w.len = length-take-le w.len w.entries (omega arith) in
-    let a : m < w.len = omega arith in
-    let e = ap (λ (x : Entry). x.to) (get_or-take w.len w.entries m no_entry a) in
-    (omega arith, omega arith, c.loop-low.invariant.2, (λ i h k. let o = c.requires.order m i (omega arith) (omega arith) in omega arith))
-
-pub returns : goal.returns
-returns c =
-    let w = c.args.self.now in
-    let l : length (listed w) ≡ w.len = length-take-le w.len w.entries (omega arith) in
-    record { value = before_is c.args.limit c.loop-low.low (listed w) (omega arith) c.loop-low.invariant.2 (λ h. c.loop-low.invariant.3 c.loop-low.low (omega arith) (omega arith)); within = omega arith }
+pub returns-clause-value : goal.returns-clause-value
+returns-clause-value c =
+    let es = c.as_slice.result.now in
+    let t = c.args.limit in
+    let order : InOrder es = subst InOrder (sym c.as_slice.ensures.value) c.self.invariant.order in
+    partition_is t c.partition_point.result es c.partition_point.ensures.bound
+    (IsPartitionPoint-from_clause (λ (e : Entry). ltb e.span.to t) es _ c.partition_point.ensures.partitioned (IsPartitionedBy-ltb (λ (e : Entry). e.span.to) es t order) (λ a r f' k. search (rules, tests)))
+    ∙ ap (before t) (c.as_slice.ensures.value ∙ c.self.view_is)

@@ -1,20 +1,16 @@
-use Rattle.std.proofs.Common.{◌≡◌, take, ◌∙◌}
+use Rattle.std.proofs.Common.{◌≡◌, ap, ◌∙◌, arith}
 use Rattle.stores.specs.Memory.{is_free}
 use Rattle.stores.proofs.StoreLaws.{is_free_law}
-use Rattle.rowstore.proofs.Stored.{formed_at, free}
+use Rattle.rowstore.specs.Entries.{clear}
+use Rattle.rowstore.specs.Tables.{row_of}
+use Rattle.rowstore.proofs.Orders.{clear_ordered}
 use Rattle.rowstore.proofs.rows.RowsStore.is_free.Goals as goal
-
-pub is_free-requires : goal.is_free-requires
-is_free-requires c =
-    let s = c.args.self.now in
-    formed_at (take s.arrivals.len s.arrivals.items) s.index s.indexed s.whole s.fits c.args.location c.row.result.now c.row.ensures
 
 pub returns : goal.returns
 returns c =
     let s = c.args.self.now in
-    let ms = take s.arrivals.len s.arrivals.items in
+    let ms = s.arrivals.messages in
     let x = c.args.location in
-    let f = c.args.from in
-    let t = c.args.to in
-    let e : c.is_free.result ≡ is_free x f t ms = c.is_free.ensures ∙ free ms s.index s.indexed s.whole s.fits x f t c.row.result.now c.row.ensures in
-    record { value = e; exact = is_free_law x f t ms _ e }
+    let p = c.args.span in
+    let e : c.is_free.result ≡ is_free x p ms = c.is_free.ensures ∙ ap (clear x p) (c.row.ensures ∙ s.indexed (row_of x) (omega arith)) ∙ clear_ordered x p ms in
+    record { value = e; exact = is_free_law x p ms _ e }

@@ -1,22 +1,15 @@
-use Rattle.std.proofs.Common.{◌≡◌, refl, ap, arith, rules}
-use Rattle.run.specs.Models.{run_of, thread_of, phase_of, saved_of}
-use Rattle.run.specs.Turns.{whose}
-use Rattle.run.proofs.Moments.{count_is, turn_in_range, promise_in_range, moment_at, act_moment, end_turn, end_showing}
+use Rattle.std.proofs.Common.{refl, ap, arith, rules}
+use Rattle.run.specs.Models.{run_of, thread_of, phase_of}
+use Rattle.run.proofs.Lifts.{turn_is, showing_is}
+use Rattle.run.proofs.Moments.{count_is, turn_in_range, moment_at, refused_at, act_moment, end_turn, end_showing}
 use Rattle.run.proofs.state.Run.at_moment.Goals as goal
 
 pub begin-requires : goal.begin-requires
 begin-requires g c =
     let run = c.args.self.now in
     let there = turn_in_range c.args.line (run_of g.L.Language g.S.Store run) c.in-Turn-Between.thread c.in-Turn-Between.is-0 c.requires in
-    let all = count_is (thread_of g.L.Language) run.count run.threads (omega arith) in
+    let all = count_is (thread_of g.L.Language) run.scope.threads run.threads (omega arith) in
     (search rules, omega arith)
-
-pub promise-requires : goal.promise-requires
-promise-requires g c =
-    let run = c.args.self.now in
-    let there = promise_in_range c.args.line (run_of g.L.Language g.S.Store run) c.in-Promise-Turn.location _ _ _ c.in-Promise-Turn.is-0 c.requires in
-    let who : whose run.phase ≡ c.in-Promise-Turn.i = ap whose c.in-Promise-Turn.is-1 in
-    (search rules, (omega arith, omega arith))
 
 pub returns-in-Turn-Between : goal.returns-in-Turn-Between
 returns-in-Turn-Between g c =
@@ -25,58 +18,46 @@ returns-in-Turn-Between g c =
 
 pub returns-in-Promise-Turn : goal.returns-in-Promise-Turn
 returns-in-Promise-Turn g c =
-    moment_at c.args.line _ (run_of g.L.Language g.S.Store c.args.self.now) _ c.promise.result _ c.in-Promise-Turn.is-0 (ap (phase_of g.L.Language) c.in-Promise-Turn.is-1)
+    moment_at c.args.line _ (run_of g.L.Language g.S.Store c.args.self.now) _ c.promise.result _ c.in-Promise-Turn.is-0 (turn_is g.L.Language g.S.Store c.args.self.now.scope.locations c.args.self.now.scope.threads c.args.self.now.phase _ c.in-Promise-Turn.is-1)
     c.promise.ensures
 
 pub returns-in-Show-Turn : goal.returns-in-Show-Turn
 returns-in-Show-Turn g c =
-    moment_at c.args.line _ (run_of g.L.Language g.S.Store c.args.self.now) _ c.show.result _ c.in-Show-Turn.is-0 (ap (phase_of g.L.Language) c.in-Show-Turn.is-1)
+    moment_at c.args.line _ (run_of g.L.Language g.S.Store c.args.self.now) _ c.show.result _ c.in-Show-Turn.is-0 (turn_is g.L.Language g.S.Store c.args.self.now.scope.locations c.args.self.now.scope.threads c.args.self.now.phase _ c.in-Show-Turn.is-1)
     c.show.ensures
 
 pub returns-in-EndTurn-Turn : goal.returns-in-EndTurn-Turn
 returns-in-EndTurn-Turn g c =
-    moment_at c.args.line _ (run_of g.L.Language g.S.Store c.args.self.now) _ c.end.result _ c.in-EndTurn-Turn.is-0 (ap (phase_of g.L.Language) c.in-EndTurn-Turn.is-1)
-    (end_turn (run_of g.L.Language g.S.Store c.args.self.now) c.in-EndTurn-Turn.i _ _ (ap (phase_of g.L.Language) c.in-EndTurn-Turn.is-1) c.end.ensures)
+    let run = c.args.self.now in
+    let phase = turn_is g.L.Language g.S.Store run.scope.locations run.scope.threads run.phase _ c.in-EndTurn-Turn.is-1 in
+    moment_at c.args.line _ (run_of g.L.Language g.S.Store run) _ c.end.result _ c.in-EndTurn-Turn.is-0 phase (end_turn (run_of g.L.Language g.S.Store run) _ _ _ phase c.end.ensures)
 
 pub returns-in-EndTurn-Showing : goal.returns-in-EndTurn-Showing
 returns-in-EndTurn-Showing g c =
-    moment_at c.args.line _ (run_of g.L.Language g.S.Store c.args.self.now) _ c.end-in-EndTurn-Showing.result _ c.in-EndTurn-Showing.is-0 (ap (phase_of g.L.Language) c.in-EndTurn-Showing.is-1)
-    (end_showing (run_of g.L.Language g.S.Store c.args.self.now) c.in-EndTurn-Showing.i (saved_of g.L.Language c.in-EndTurn-Showing.field-1-1) c.in-EndTurn-Showing.field-1-1.closing.ends _ _ (ap (phase_of g.L.Language) c.in-EndTurn-Showing.is-1) c.end-in-EndTurn-Showing.ensures)
+    let run = c.args.self.now in
+    let phase = showing_is g.L.Language g.S.Store run.scope.locations run.scope.threads run.phase _ _ c.in-EndTurn-Showing.is-1 in
+    moment_at c.args.line _ (run_of g.L.Language g.S.Store run) _ c.end-in-EndTurn-Showing.result _ c.in-EndTurn-Showing.is-0 phase (end_showing (run_of g.L.Language g.S.Store run) _ _ _ _ _ phase c.end-in-EndTurn-Showing.ensures)
 
 pub returns-in-Turn-Turn : goal.returns-in-Turn-Turn
-returns-in-Turn-Turn g c =
-    moment_at c.args.line _ (run_of g.L.Language g.S.Store c.args.self.now) _ _ _ c.in-Turn-Turn.is-0 (ap (phase_of g.L.Language) c.in-Turn-Turn.is-1)
-    (refl, refl)
+returns-in-Turn-Turn g c = refused_at c.args.line _ (run_of g.L.Language g.S.Store c.args.self.now) _ c.in-Turn-Turn.is-0 (ap (phase_of g.L.Language) c.in-Turn-Turn.is-1) refl
 
 pub returns-in-Turn-Showing : goal.returns-in-Turn-Showing
-returns-in-Turn-Showing g c =
-    moment_at c.args.line _ (run_of g.L.Language g.S.Store c.args.self.now) _ _ _ c.in-Turn-Showing.is-0 (ap (phase_of g.L.Language) c.in-Turn-Showing.is-1)
-    (refl, refl)
+returns-in-Turn-Showing g c = refused_at c.args.line _ (run_of g.L.Language g.S.Store c.args.self.now) _ c.in-Turn-Showing.is-0 (ap (phase_of g.L.Language) c.in-Turn-Showing.is-1) refl
 
 pub returns-in-Promise-Between : goal.returns-in-Promise-Between
-returns-in-Promise-Between g c =
-    moment_at c.args.line _ (run_of g.L.Language g.S.Store c.args.self.now) _ _ _ c.in-Promise-Between.is-0 (ap (phase_of g.L.Language) c.in-Promise-Between.is-1)
-    (refl, refl)
+returns-in-Promise-Between g c = refused_at c.args.line _ (run_of g.L.Language g.S.Store c.args.self.now) _ c.in-Promise-Between.is-0 (ap (phase_of g.L.Language) c.in-Promise-Between.is-1) refl
 
 pub returns-in-Promise-Showing : goal.returns-in-Promise-Showing
-returns-in-Promise-Showing g c =
-    moment_at c.args.line _ (run_of g.L.Language g.S.Store c.args.self.now) _ _ _ c.in-Promise-Showing.is-0 (ap (phase_of g.L.Language) c.in-Promise-Showing.is-1)
-    (refl, refl)
+returns-in-Promise-Showing g c = refused_at c.args.line _ (run_of g.L.Language g.S.Store c.args.self.now) _ c.in-Promise-Showing.is-0 (ap (phase_of g.L.Language) c.in-Promise-Showing.is-1) refl
 
 pub returns-in-Show-Between : goal.returns-in-Show-Between
-returns-in-Show-Between g c =
-    moment_at c.args.line _ (run_of g.L.Language g.S.Store c.args.self.now) _ _ _ c.in-Show-Between.is-0 (ap (phase_of g.L.Language) c.in-Show-Between.is-1)
-    (refl, refl)
+returns-in-Show-Between g c = refused_at c.args.line _ (run_of g.L.Language g.S.Store c.args.self.now) _ c.in-Show-Between.is-0 (ap (phase_of g.L.Language) c.in-Show-Between.is-1) refl
 
 pub returns-in-Show-Showing : goal.returns-in-Show-Showing
-returns-in-Show-Showing g c =
-    moment_at c.args.line _ (run_of g.L.Language g.S.Store c.args.self.now) _ _ _ c.in-Show-Showing.is-0 (ap (phase_of g.L.Language) c.in-Show-Showing.is-1)
-    (refl, refl)
+returns-in-Show-Showing g c = refused_at c.args.line _ (run_of g.L.Language g.S.Store c.args.self.now) _ c.in-Show-Showing.is-0 (ap (phase_of g.L.Language) c.in-Show-Showing.is-1) refl
 
 pub returns-in-EndTurn-Between : goal.returns-in-EndTurn-Between
-returns-in-EndTurn-Between g c =
-    moment_at c.args.line _ (run_of g.L.Language g.S.Store c.args.self.now) _ _ _ c.in-EndTurn-Between.is-0 (ap (phase_of g.L.Language) c.in-EndTurn-Between.is-1)
-    (refl, refl)
+returns-in-EndTurn-Between g c = refused_at c.args.line _ (run_of g.L.Language g.S.Store c.args.self.now) _ c.in-EndTurn-Between.is-0 (ap (phase_of g.L.Language) c.in-EndTurn-Between.is-1) refl
 
 pub returns-in-Next-default : goal.returns-in-Next-default
 returns-in-Next-default g c = act_moment c.args.line _ (run_of g.L.Language g.S.Store c.args.self.now) c.step_of_thread.result _ c.in-Next-default.is-0 refl c.step_of_thread.ensures

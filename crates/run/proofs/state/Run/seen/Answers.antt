@@ -9,15 +9,15 @@ use Rattle.run.proofs.Lifts.{thread_read}
 use Rattle.run.proofs.Moments.{count_is}
 use Rattle.run.proofs.state.Run.seen.Goals as goal
 
-pub returns-then-thread-self : goal.returns-then-thread-self
-returns-then-thread-self g c =
+pub returns-then-thread-threads : goal.returns-then-thread-threads
+returns-then-thread-threads g c =
     let run = c.args.self.now in
     c.seen.ensures ∙ ap (λ (t : model.Thread). at t.views.cur c.args.location)
-    (thread_read g.L.Language g.S.Store run.locations run.count run.threads c.args.thread c.index-self-thread.result (omega arith) (omega arith))
+    (thread_read g.L.Language g.S.Store run.scope.locations run.scope.threads run.threads c.args.thread c.index-self-thread.result (omega arith) (omega arith))
 
-pub returns-else-thread-self : goal.returns-else-thread-self
-returns-else-thread-self g c =
+pub returns-else-thread-threads : goal.returns-else-thread-threads
+returns-else-thread-threads g c =
     let run = c.args.self.now in
     let ts = (run_of g.L.Language g.S.Store run).threads in
-    let n = count_is (thread_of g.L.Language) run.count run.threads (omega arith) in
+    let n = count_is (thread_of g.L.Language) run.scope.threads run.threads (omega arith) in
     sym (ap (λ (t : model.Thread). at t.views.cur c.args.location) (get_or_past ts c.args.thread nobody (omega arith)) ∙ at_zero c.args.location)

@@ -1,13 +1,13 @@
-use Rattle.std.proofs.Common.{◌≡◌, sym, refl}
-use Rattle.stores.specs.Views.{single, zero_view}
-use Rattle.stores.proofs.ViewLaws.{single_outside, single_law}
+use Rattle.std.proofs.Common.{◌≡◌, rules}
+use Rattle.stores.specs.declared.view.View.{View}
+use Rattle.stores.specs.Views.{single}
+use Rattle.stores.proofs.ViewLaws.{is_single, single_law}
 use Rattle.stores.proofs.view.View.single.Goals as goal
 
-pub returns-then-location-lt8 : goal.returns-then-location-lt8
-returns-then-location-lt8 c = record { value = refl; places = single_law _ _ _ refl }
-
-pub returns-else-location-lt8 : goal.returns-else-location-lt8
-returns-else-location-lt8 c =
-    let e : zero_view ≡ single c.args.location c.args.end =
-    sym (single_outside c.args.location c.args.end c.if-location-lt8.false) in
+pub returns : goal.returns
+returns c =
+    let made = c.from_fn.ensures.items in
+    let long = made.long in
+    let r : View = record { ends = c.from_fn.result } in
+    let e : r ≡ single c.args.location c.args.end = is_single c.args.location c.args.end r made.long (λ x h. let k = (made.at x 0 h).2 in search rules) in
     record { value = e; places = single_law _ _ _ e }

@@ -1,0 +1,5 @@
+pub mod HeadSteps
+pub mod HeadLaws
+pub mod ProgramsRead
+pub mod Texts
+pub mod Lengths

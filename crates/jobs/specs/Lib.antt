@@ -1,0 +1,11 @@
+pub mod Jobs
+pub mod Sections
+pub mod Faults
+pub mod Heads
+pub mod Headings
+pub mod HeadLaws
+pub mod Programs
+pub mod Texts
+pub mod JobCodec
+pub mod SectionCodec
+pub mod Reports

@@ -1,6 +1,0 @@
-use Rattle.std.proofs.Common.{◌≡◌, ◌≤◌, drop}
-use Rattle.judge.specs.Sections.{first_wrong}
-use Rattle.judge.proofs.head.first_wrong_section.Given as goal
-
-abbrev pub invariant-loop-k : goal.invariant-loop-k
-invariant-loop-k l = (l.at ≤ l.end) × (first_wrong l.k l.at (drop l.k l.sections) l.end ≡ first_wrong 0 l.start l.sections l.end)

@@ -1,6 +1,0 @@
-use Rattle.whole_judge.specs.Headings.{heading_of}
-use Rattle.whole_judge.proofs.HeadLaws.{head_exact}
-use Rattle.whole_judge.proofs.head.Head.read.Goals as goal
-
-pub returns : goal.returns
-returns c = record { value = c.head_of.ensures; exact = head_exact c.args.file.now (heading_of c.head_of.result) c.head_of.ensures }
