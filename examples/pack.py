@@ -1,7 +1,7 @@
 #!/usr/bin/env python3
-"""Packs the jobs below examples/ and their reports for the program `whole_cases`: examples/pack.py [--check]
+"""Packs the jobs below examples/ and their reports for the program `cases`: examples/pack.py [--check]
 
-crates/whole_cases/stdin gets each job behind a line `= NAME LENGTH`, and crates/whole_cases/stdout a line
+crates/cases/stdin gets each job behind a line `= NAME LENGTH`, and crates/cases/stdout a line
 `NAME:` and the report for each. NAME is the job's path below examples/ without `.job`.
 With --check nothing is written; the first difference is named, and the exit code is 1.
 """
@@ -9,7 +9,7 @@ import sys
 from pathlib import Path
 
 EXAMPLES = Path(__file__).resolve().parent
-CASES = EXAMPLES.parent / "crates" / "whole_cases"
+CASES = EXAMPLES.parent / "crates" / "cases"
 
 # The program judges these by itself: two files too large to keep, and a buffer too short.
 TAIL = b"""65535 bytes:
@@ -55,7 +55,7 @@ def main(arguments):
         if not arguments:
             path.write_bytes(b"".join(part for _, part in parts))
         elif found := difference(path, parts):
-            sys.exit(f"crates/whole_cases/{file}: {found}")
+            sys.exit(f"crates/cases/{file}: {found}")
 
 
 if __name__ == "__main__":

@@ -15,4 +15,7 @@
  */
 size_t judge(const uint8_t *file, size_t file_len, uint8_t *report, size_t report_len);
 
+/* The same, judged on the flat store in place of the row store. */
+size_t judge_flat(const uint8_t *file, size_t file_len, uint8_t *report, size_t report_len);
+
 #endif

@@ -22,6 +22,7 @@ impl Section {
 
 impl Head {
     // Reads the program of each thread; the places past the last thread are empty programs.
+    // An array of four, since a run takes the states of four threads.
     pub fn programs<I: ProgramLine>(
         &self,
         file: &[u8],

@@ -1,3 +1,7 @@
+pub mod Faults
 pub mod Traces
-pub mod Outcomes
+pub mod Verdicts
 pub mod Reports
+pub mod Layouts
+pub mod Printable
+pub mod JobLaws

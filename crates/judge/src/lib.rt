@@ -1,7 +1,10 @@
-// Judges the form of a job file, and writes the report.
+// Judges a job file, and writes the report.
 #![tactic(auto)]
 
+mod account;
 pub mod fault;
-pub mod outcome;
+pub mod refused;
 pub mod report;
+mod start;
 mod trace;
+pub mod verdict;

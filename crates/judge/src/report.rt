@@ -1,40 +1,40 @@
 // The call: a file and a buffer in, the report in the buffer and its length out.
-ghost use Rattle.std.specs.Prelude.{◌≡◌, ℕ, ◌≤◌, length};
-ghost use Rattle.judge.specs.Reports.{programs_text, accepted_text, answered, left_in};
-ghost use Rattle.jobs.specs.Texts.{added};
+ghost use Rattle.std.specs.Prelude.{◌≡◌, ℕ, ◌≤◌, length, take};
+ghost use Rattle.judge.specs.JobLaws.{Reported};
+ghost use Rattle.judge.specs.Reports.{answered, left_in};
 
-use crate::outcome::Form;
+use crate::verdict::report_accepted;
 use jobs::report::write_report;
 pub use jobs::text::LEAST_REPORT;
-use jobs::text::Text;
-
-// s i k for each program
-fn add_programs(text: &mut Text, programs: &[usize])
-    requires { length programs.now ≤ 4 }
-    ensures after { text.new.bytes ≡ added text.old.bytes (programs_text programs.now) }
-    ensures short { length (programs_text programs.now) ≤ 176 }
-{
-    for (i, count) in programs.iter().enumerate() {
-        text.line(b's', &[i as u64, *count as u64]);
-    }
-}
-
-// OK n, then the programs
-fn accepted(form: &Form) -> Text
-    ensures { result.bytes ≡ accepted_text form.now }
-{
-    let mut text = Text::new();
-    text.push(b'O');
-    text.line(b'K', &[form.trace as u64]);
-    add_programs(&mut text, form.programs.as_slice());
-    text
-}
+use rowstore::rows::Rows;
+use stores::flat::Flat;
 
 // Writes the report on a job file into the buffer, then zeros to its end, and answers the report's length.
-// A buffer under 2,400 bytes is not written, and the answer is 0.
+// A buffer under 2,400 bytes is not written, and the answer is 0. The file is judged on the row store.
 pub fn judge(file: &[u8], report: &mut [u8]) -> usize
-    ensures value { result ≡ answered file.now (length report.old) }
-    ensures after { report.new ≡ left_in file.now report.old }
+    ensures value { result ≡ answered 64 file.now (length report.old) }
+    ensures after { report.new ≡ left_in 64 file.now report.old }
+    ensures law { 2400 ≤ length report.old → Reported file.now (take result report.new) }
 {
-    write_report(Form::read(file).map(|form| accepted(&form)), report)
+    write_report(report_accepted(file, Rows::new()), report)
+}
+
+// The same, judged on the flat store.
+pub fn judge_flat(file: &[u8], report: &mut [u8]) -> usize
+    ensures value { result ≡ answered 64 file.now (length report.old) }
+    ensures after { report.new ≡ left_in 64 file.now report.old }
+    ensures law { 2400 ≤ length report.old → Reported file.now (take result report.new) }
+{
+    write_report(report_accepted(file, Flat::new()), report)
+}
+
+// Judges the file on both stores. The two buffers end alike where they are of one length that is enough.
+pub fn judge_twice(file: &[u8], rows: &mut [u8], flat: &mut [u8]) -> (usize, usize)
+    ensures same { length rows.old ≡ length flat.old → 2400 ≤ length rows.old → (rows.new ≡ flat.new) × (result.0 ≡ result.1) }
+    ensures rows { (result.0 ≡ answered 64 file.now (length rows.old)) × (rows.new ≡ left_in 64 file.now rows.old) }
+    ensures flat { (result.1 ≡ answered 64 file.now (length flat.old)) × (flat.new ≡ left_in 64 file.now flat.old) }
+{
+    let first = judge(file, rows);
+    let second = judge_flat(file, flat);
+    (first, second)
 }

@@ -41,6 +41,7 @@ pub enum Phase<L> {
 }
 
 // A run of the first of the threads, as many as its scope says.
+// They are an array: a list of bounded length copies its elements, and a thread's language need not be Copy.
 #[derive(Drop)]
 pub struct Run<L, S> {
     pub(crate) scope: Scope,

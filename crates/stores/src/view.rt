@@ -48,6 +48,7 @@ impl View {
     }
 
     // whether this view is at most the other at each location
+    // No PartialOrd: a derived one would go by the first ends that differ, and views are ordered in part.
     pub fn at_most(self, other: View) -> bool
         ensures value { result ≡ at_most self other }
         ensures order { Decides result (Below self other) }
