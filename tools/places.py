@@ -121,7 +121,6 @@ show("7  fn pointers, dyn, closures as parameters", lines(r"\bdyn \w|: fn\(|impl
 answers = read("crates/*/proofs/**/Answers.antt")
 proofs = read("crates/*/proofs/**/*.antt")
 show("8  answers", ["%s %s" % (f, m) for f, s in answers for m in re.findall(r"^pub (\S+) : goal\.", s, re.M)] if not only_counts else ["" for f, s in answers for m in re.findall(r"^pub (\S+) : goal\.", s, re.M)])
-show("8  answers that are a tactic alone", ["%s %s" % (f, m) for f, s in answers for m in re.findall(r"^(\S+) (?:g )?(?:t )?c = (?:search rules|omega arith|grind arith)$", s, re.M)])
 show("8  lines of proofs", ["" for f, s in proofs for _ in s.split("\n")[:-1]] if only_counts else ["in all: %d" % sum(s.count("\n") for f, s in proofs)])
 show("8  imports of older forms", ["%s: %s" % (f, m) for f, s in proofs + read("crates/*/specs/*.antt") for m in re.findall(r"AllByRecursion as All|\b(?:ltb|leb|eqb)\b(?=[,}])", s)])
 show("8  laws that the script of the move proved by two tactics", lines(r"first_of \(Prim"))

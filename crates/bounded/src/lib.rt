@@ -21,6 +21,7 @@ pub trait Choice<T>: Copy {
         ensures { result ≡ chooses self element };
 }
 
+// An array and a length: what std has of this kind lies on the heap.
 #[derive(Clone, Drop)]
 pub struct Bounded<T, const N: usize> {
     slots: [T; N],

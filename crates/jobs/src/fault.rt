@@ -77,7 +77,8 @@ impl From<ProgramFault> for FileFault {
     }
 }
 
-// A fault with its section, 0 for the head, and its line in the section, from 1.
+// A fault with its section, 0 for the head, and its line in the section, from 1; a file that is too long has line 0.
+// Numbers, as a report prints them.
 #[derive(Clone, Copy, PartialEq, Eq, Debug)]
 pub struct Refusal<F> {
     pub fault: F,
@@ -101,7 +102,7 @@ impl<F> Refusal<F> {
         }
     }
 
-    // The same refusal, where there are more kinds of faults.
+    // The same refusal, where there are more kinds of faults. No `From`, since std has one of each type into itself.
     pub fn widen<G: From<F>>(self) -> Refusal<G>
         ensures fault { G.from_gives self.fault result.fault }
         ensures section { result.section ≡ self.section }

@@ -15,6 +15,7 @@ pub enum LanguageChoice {
     Strips,
 }
 
+// An impl of its own, as for each mode of a line.
 impl TryFrom<u32> for LanguageChoice {
     type Error = LineFault;
 

@@ -14,7 +14,7 @@ use lines::family::Spelled;
 use lines::reader::{LineFault, Reader};
 use lines::refusal::LineRefusal;
 
-// Reads so many section lines, the first of which is line 2.
+// Reads so many section lines, the first of which is line 2. By number: each line has one, and no slice is walked.
 fn read_sections(
     reader: &mut Reader,
     count: usize,

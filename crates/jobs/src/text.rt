@@ -30,7 +30,8 @@ impl Text {
         let _ = self.bytes.push(byte);
     }
 
-    // Adds a number in decimal. By hand, since `write!` may fail, and then says nothing of what was written.
+    // Adds a number in decimal. By hand, since `write!` may fail, and then says nothing of what was written;
+    // `itoa` of the kit would be a crate for eight lines.
     fn number(&mut self, number: u64)
         ensures { self.new.bytes ≡ added self.old.bytes (decimal number) }
     {
@@ -61,7 +62,7 @@ impl Text {
     }
 
     // Copies the text into a buffer, then zeros to its end, and answers the text's length.
-    // A buffer under 2,400 bytes is not written, and the answer is 0.
+    // A buffer under 2,400 bytes is not written, and the answer is 0, as C gets it.
     pub fn copy_to(&self, out: &mut [u8]) -> usize
         ensures value { result ≡ answer self.now.bytes (length out.old) }
         ensures after { out.new ≡ left self.now.bytes out.old }

@@ -12,7 +12,7 @@ use languages::language::Language;
 use run::state::Run;
 use stores::store::Store;
 
-// 0, or the owing thread plus 1
+// 0, or the owing thread plus 1, as a report prints it
 fn owner(who: Option<u8>) -> u64
     ensures { result ≡ owner who }
 {

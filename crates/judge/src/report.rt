@@ -19,7 +19,7 @@ pub fn judge(file: &[u8], report: &mut [u8]) -> usize
     write_report(report_accepted(file, Rows::new()), report)
 }
 
-// The same, judged on the flat store.
+// The same, judged on the flat store. A call of its own, since C names each by its symbol.
 pub fn judge_flat(file: &[u8], report: &mut [u8]) -> usize
     ensures value { result ≡ answered 64 file.now (length report.old) }
     ensures after { report.new ≡ left_in 64 file.now report.old }

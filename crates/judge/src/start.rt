@@ -42,7 +42,7 @@ impl<'a> Starts<'a, StripLine> for StripThread<'a> {
 pub(crate) fn threads<'a, I: ProgramLine, L: Starts<'a, I>>(programs: &'a [Program<I>; 4]) -> [L; 4]
     ensures { map L.behaves result ≡ map L.starts (map program_lines programs.now) }
 {
-    // one by one: `map` of an array owes a bound on the size of what it makes
+    // one by one: `map` of an array owes a bound on sizes, and a closure for `from_fn` wants a clause written out
     [
         L::start(programs[0].lines()),
         L::start(programs[1].lines()),

@@ -24,6 +24,7 @@ use run::state::Run;
 use stores::store::Store;
 
 // A run that cannot be made is refused at the J line, which asks for it.
+// No `From`: std's trait for another crate's type is implemented in that crate alone.
 fn not_made(fault: StepFault) -> Refusal
     ensures { result ≡ record { fault = StepOf fault; section = 0; line = 1 } }
 {
@@ -67,6 +68,7 @@ pub(crate) fn report_accepted<S: Store>(file: &[u8], store: S) -> Result<Text, R
         Ok(head) => head,
         Err(refusal) => return Err(refusal.widen()),
     };
+    // an arm for each language: a thread's type has the lifetime of the programs that are read here
     match head.job.language {
         LanguageChoice::Registers => match head.programs::<RegisterLine>(file) {
             Ok(programs) => {

@@ -63,7 +63,7 @@ impl<I: ProgramLine> Program<I> {
         Ok(())
     }
 
-    // Reads lines to the section's end.
+    // Reads lines to the section's end. A loop of its own beside that over a trace: what grows here is the program.
     pub fn read(section: &[u8], scope: Scope) -> Result<Program<I>, LineRefusal<ProgramFault>>
         ensures { lines_of result ≡ program (I.ProgramLine.reads scope.locations) section.now }
     {

@@ -68,6 +68,7 @@ impl<'a> Reader<'a> {
     }
 
     // The number in front, none inside where it is above the largest.
+    // By hand: std's `parse` takes text, and the digits of a number that is too large are passed too.
     fn number(&mut self, most: u32) -> Option<Option<u32>>
         ensures { Reads (number most self.old.rest.now) result self.new.rest.now }
     {

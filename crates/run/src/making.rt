@@ -50,7 +50,7 @@ impl<L: Language, S: Store> Run<L, S> {
         fill(&mut store, locations)?;
         Ok(Run {
             scope,
-            // one by one: `map` of an array owes a bound on the size of what it makes
+            // one by one: `map` of an array owes a bound on sizes, and a closure for `from_fn` wants a clause
             threads: [
                 Thread::new(&threads[0]),
                 Thread::new(&threads[1]),

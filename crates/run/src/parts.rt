@@ -18,6 +18,7 @@ pub struct ThreadViews {
 }
 
 // A mark for each arrival number, set where the thread owes that message.
+// Beside the messages, since a message knows no thread and the store no marks.
 #[derive(Clone, Copy)]
 pub struct Owed {
     pub(crate) marks: [bool; 64],
