@@ -1,7 +1,8 @@
 -- What one turn of the fields' reader keeps.
-use Rattle.lines.specs.Reading.{with_last}
+use Rattle.std.specs.Bool.{then_some}
+use Rattle.bounded.specs.Bounds.{push_within}
 use Rattle.std.proofs.lemmas.Bool.{lt-ltb}
-use Rattle.std.proofs.Common.{◌≡◌, ℕ, ◌+◌, ◌<◌, ◌≤◌, List, [], ◌∷◌, ◌++◌, length, get_or, drop, Some, None, Option, sym, refl, ap, ◌∙◌, append_assoc, arith}
+use Rattle.std.proofs.Common.{◌≡◌, ℕ, ◌+◌, ◌<◌, ◌≤◌, Bool, true, false, List, [], ◌∷◌, ◌++◌, length, get_or, drop, Some, None, Option, sym, refl, ap, ◌∙◌, append_assoc, arith}
 use Rattle.std.proofs.lemmas.List.{at_drop_more, at_drop_all, append-nil, length_push}
 use Rattle.lines.specs.Fields.{field, fields, with_first, and_then}
 
@@ -54,12 +55,16 @@ module _ (ms : List ℕ) (k : ℕ) (h : k < length ms) (a : Option (List ℕ)) (
 pub fields_end : (ms : List ℕ) (k : ℕ) → length ms ≤ k → (a : Option (List ℕ)) (bs : List ℕ) → prepend a (fields (drop k ms) bs) ≡ Some (a, bs)
 fields_end ms k h a bs = at_drop_all (λ xs. prepend a (fields xs bs)) ms k h ∙ ap (λ b. Some (b, bs)) (both_nil a)
 
--- where all are in range, so many of them
-abbrev pub Many : ℕ → Option (List ℕ) → Type 0
-Many k None = Unit {0}
-Many k (Some vs) = length vs ≡ k
+more_in_range : (within : Bool) (vs : List ℕ) (v : ℕ) → then_some within (vs ++ v ∷ []) ≡ both (then_some within vs) (alone (Some v))
+more_in_range true vs v = refl
+more_in_range false vs v = refl
 
-pub one_more_field : (k : ℕ) (vs : Option (List ℕ)) (v : Option ℕ) → Many k vs → k < 6 → (Many (k + 1) (with_last vs v)) × (with_last vs v ≡ both vs (alone v))
-one_more_field k None v h small = (tt, refl)
-one_more_field k (Some vs) None h small = (tt, refl)
-one_more_field k (Some vs) (Some v) h small = let t = lt-ltb (length vs) 6 (omega arith) in rw t (length_push vs v ∙ ap (λ n. n + 1) h, refl)
+-- one number more, where there is room for it
+pub more_gathered : (k : ℕ) (within : Bool) (vs : List ℕ) (v : ℕ) → length vs ≤ k → k < 6 → (length (push_within 6 vs v) ≤ k + 1) × (then_some within (push_within 6 vs v) ≡ both (then_some within vs) (alone (Some v)))
+more_gathered k within vs v few room =
+    let fits = lt-ltb (length vs) 6 (omega arith) in
+    rw fits (omega (arith, length_push vs v), more_in_range within vs v)
+
+pub out_of_range : (a : Option (List ℕ)) → None ≡ both a None
+out_of_range None = refl
+out_of_range (Some vs) = refl

@@ -28,11 +28,6 @@ plain ds = plain_by (length ds) (slice_index ds 0)
 abbrev pub up_to : ℕ → ℕ → Option ℕ
 up_to most v = if nat_le v most then Some v else None
 
--- one digit more
-abbrev pub one_more : ℕ → Option ℕ → ℕ → Option ℕ
-one_more most None d = None
-one_more most (Some v) d = up_to most (10 * v + (d - 48))
-
 -- a number, none where it is above the largest, and what follows it
 abbrev pub number : ℕ → List ℕ → Option (Option ℕ × List ℕ)
 number most bs = if plain (digits bs) then Some (up_to most (value_after 0 (digits bs)), drop (length (digits bs)) bs) else None

@@ -1,12 +1,6 @@
 -- What the reader's calls answer, and what they leave to be read.
-use Rattle.std.specs.Prelude.{◌≡◌, ℕ, Bool, true, false, List, [], ◌∷◌, ◌++◌, length, Some, None, Ok, Err, Option, Result, if◌then◌else◌, nat_lt}
+use Rattle.std.specs.Prelude.{◌≡◌, ℕ, Bool, true, false, List, Some, None, Ok, Err, Option, Result}
 use Rattle.lines.specs.declared.reader.LineFault.{LineFault}
-
--- a number more, where all are in range, and there is room for it
-abbrev pub with_last : Option (List ℕ) → Option ℕ → Option (List ℕ)
-with_last None v = None
-with_last (Some vs) None = None
-with_last (Some vs) (Some v) = if nat_lt (length vs) 6 then Some (vs ++ v ∷ []) else None
 
 -- the byte was next, and was passed
 abbrev pub Passes : Option (List ℕ) → Bool → List ℕ → List ℕ → Type 0

@@ -1,7 +1,7 @@
 // Reads one line after another from bytes.
-ghost use Rattle.std.specs.Prelude.{◌≡◌, ℕ, true, length, IfOk};
-ghost use Rattle.lines.specs.Fields.{digit, plain, one_more, past, number, field, fields, line, letter};
-ghost use Rattle.lines.specs.Reading.{with_last, Passes, Reads, read, unread};
+ghost use Rattle.std.specs.Prelude.{◌≡◌, ℕ, ◌+◌, ◌-◌, ◌*◌, ◌≤◌, min, true, length, IfOk};
+ghost use Rattle.lines.specs.Fields.{digit, plain, up_to, past, number, field, fields, line, letter};
+ghost use Rattle.lines.specs.Reading.{Passes, Reads, read, unread};
 ghost use Rattle.lines.specs.Spelling.{InRange};
 
 use bounded::Bounded;
@@ -22,35 +22,38 @@ pub struct Reader<'a> {
     rest: &'a [u8],
 }
 
+// Above every limit. A number that comes so far stays there, however many digits follow.
+const TOO_LARGE: u64 = 1 << 32;
+
 // Whether digits are a number without a leading zero.
 fn is_plain(digits: &[u8]) -> bool
     ensures { result ≡ plain digits.now }
 {
     match digits {
         [] => false,
-        [_] => true,
-        [first, ..] => *first != b'0',
+        [b'0', after @ ..] => after.is_empty(),
+        _ => true,
     }
 }
 
-// The number after one digit more, none where it is above the largest.
-fn with_digit(number: Option<u32>, byte: u8, most: u32) -> Option<u32>
-    requires { digit byte ≡ true }
-    ensures { result ≡ one_more most number byte }
+// The number after one digit more.
+fn with_digit(number: u64, byte: u8) -> u64
+    requires small { number ≤ 4294967296 }
+    requires is_digit { digit byte ≡ true }
+    ensures { result ≡ min (10 * number + (byte - 48)) 4294967296 }
 {
-    let after = number?
-        .checked_mul(10)?
-        .checked_add(u32::from(byte - b'0'))?;
-    (after <= most).then_some(after)
+    (10 * number + u64::from(byte - b'0')).min(TOO_LARGE)
 }
 
-// The numbers with one more, none where one of them is.
-fn with_number(numbers: Option<Numbers>, number: Option<u32>) -> Option<Numbers>
-    ensures { result ≡ with_last numbers number }
+// The number, none where it is above the largest.
+fn at_most(number: u64, most: u32) -> Option<u32>
+    ensures { result ≡ up_to most number }
 {
-    let mut numbers = numbers?;
-    numbers.push(number?).ok()?;
-    Some(numbers)
+    if number <= u64::from(most) {
+        Some(number as u32)
+    } else {
+        None
+    }
 }
 
 impl<'a> Reader<'a> {
@@ -72,10 +75,10 @@ impl<'a> Reader<'a> {
     fn number(&mut self, most: u32) -> Option<Option<u32>>
         ensures { Reads (number most self.old.rest.now) result self.new.rest.now }
     {
-        let mut number = Some(0);
+        let mut number = 0;
         let mut rest = self.rest;
         while let [digit @ b'0'..=b'9', after @ ..] = rest {
-            number = with_digit(number, *digit, most);
+            number = with_digit(number, *digit);
             rest = after;
         }
         let count = self.rest.len() - rest.len();
@@ -83,7 +86,7 @@ impl<'a> Reader<'a> {
             return None;
         }
         self.rest = rest;
-        Some(number)
+        Some(at_most(number, most))
     }
 
     // Passes a byte if it is the one that is wanted.
@@ -112,12 +115,17 @@ impl<'a> Reader<'a> {
     fn fields(&mut self, limits: &Numbers) -> Option<Option<Numbers>>
         ensures { Reads (fields limits.now self.old.rest.now) result self.new.rest.now }
     {
-        let mut numbers = Some(Numbers::new(0));
+        let mut numbers = Numbers::new(0);
+        let mut within = true;
         for most in limits.as_slice() {
-            let number = self.field(*most)?;
-            numbers = with_number(numbers, number);
+            match self.field(*most)? {
+                Some(number) => {
+                    let _ = numbers.push(number);
+                }
+                None => within = false,
+            }
         }
-        Some(numbers)
+        Some(within.then_some(numbers))
     }
 
     // The letter of the line that comes next.
