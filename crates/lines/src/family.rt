@@ -40,6 +40,7 @@ pub trait Spelled: Copy {
             → option_map shown result ≡ (family scope).make kind numbers.now };
 
     // Reads the line in front. A line that is refused is not passed.
+    #[inline(always)]
     final fn read(reader: &mut Reader, scope: Self::Scope) -> Result<Self, LineFault>
         ensures value { seen shown result ≡ read (reads (family scope) reader.old.rest.now) }
         ensures left { reader.new.rest.now ≡ unread (reads (family scope) reader.old.rest.now) reader.old.rest.now }

@@ -1,5 +1,5 @@
 // Reads one line after another from bytes.
-ghost use Rattle.std.specs.Prelude.{◌≡◌, ℕ, ◌+◌, ◌-◌, ◌*◌, ◌≤◌, min, true, length, IfOk};
+ghost use Rattle.std.specs.Prelude.{◌≡◌, ℕ, ◌+◌, ◌-◌, ◌*◌, if◌then◌else◌, nat_le, true, length, IfOk};
 ghost use Rattle.lines.specs.Fields.{digit, plain, up_to, past, number, field, fields, line, letter};
 ghost use Rattle.lines.specs.Reading.{Passes, Reads, read, unread};
 ghost use Rattle.lines.specs.Spelling.{InRange};
@@ -22,9 +22,6 @@ pub struct Reader<'a> {
     rest: &'a [u8],
 }
 
-// Above every limit. A number that comes so far stays there, however many digits follow.
-const TOO_LARGE: u64 = 1 << 32;
-
 // Whether digits are a number without a leading zero.
 fn is_plain(digits: &[u8]) -> bool
     ensures { result ≡ plain digits.now }
@@ -36,13 +33,16 @@ fn is_plain(digits: &[u8]) -> bool
     }
 }
 
-// The number after one digit more.
-fn with_digit(number: u64, byte: u8) -> u64
-    requires small { number ≤ 4294967296 }
-    requires is_digit { digit byte ≡ true }
-    ensures { result ≡ min (10 * number + (byte - 48)) 4294967296 }
+// The number after one digit more. Above the largest it stays as it is: what follows only makes it larger.
+fn with_digit(number: u64, byte: u8, most: u32) -> u64
+    requires { digit byte ≡ true }
+    ensures { result ≡ (if nat_le number most then 10 * number + (byte - 48) else number) }
 {
-    (10 * number + u64::from(byte - b'0')).min(TOO_LARGE)
+    if number <= u64::from(most) {
+        10 * number + u64::from(byte - b'0')
+    } else {
+        number
+    }
 }
 
 // The number, none where it is above the largest.
@@ -78,7 +78,7 @@ impl<'a> Reader<'a> {
         let mut number = 0;
         let mut rest = self.rest;
         while let [digit @ b'0'..=b'9', after @ ..] = rest {
-            number = with_digit(number, *digit);
+            number = with_digit(number, *digit, most);
             rest = after;
         }
         let count = self.rest.len() - rest.len();
@@ -140,6 +140,7 @@ impl<'a> Reader<'a> {
 
     // Reads a line with a field for each of the largest numbers, whatever its letter.
     // A line that is refused is not passed.
+    #[inline(always)]
     pub fn line(&mut self, limits: &Numbers) -> Result<Numbers, LineFault>
         ensures numbers { result ≡ read (line limits.now self.old.rest.now) }
         ensures left { self.new.rest.now ≡ unread (line limits.now self.old.rest.now) self.old.rest.now }

@@ -6,13 +6,13 @@ use Rattle.lines.proofs.reader.Reader.number.Goals as goal
 use Rattle.lines.proofs.reader.Reader.number.Goals.{in_default, in_default-2, in_default-3}
 
 pub loop-rest-init : goal.loop-rest-init
-loop-rest-init c = read_none_yet 4294967296 _
+loop-rest-init c = read_none_yet _ _
 
 pub loop-rest-preserved : goal.loop-rest-preserved
 loop-rest-preserved c =
     let rest = c.loop-rest.rest.now in
     let here : digit (get_or rest 0 0) ≡ true = search rules in
-    rw (c.with_digit-number.ensures, take_rest rest 1) (read_one_more 4294967296 c.args.self.now.rest.now c.loop-rest.number rest (omega arith) here c.loop-rest.invariant)
+    rw (c.with_digit-number.ensures, take_rest rest 1) (read_one_more c.args.most c.args.self.now.rest.now c.loop-rest.number rest (omega arith) here c.loop-rest.invariant)
 
 pub returns : goal.returns
 returns c =
@@ -22,7 +22,7 @@ returns c =
       | in_default-2 w ↦ λ l. search rules
       | in_default-3 w ↦ λ l. search rules
     ]) in
-    let is = number_is 4294967296 c.args.most c.args.self.now.rest.now c.loop-rest.number rest (omega arith) past c.loop-rest.invariant in
+    let is = number_is c.args.most c.args.self.now.rest.now c.loop-rest.number rest past c.loop-rest.invariant in
     rw (is, ← c.is_plain.ensures, c.if-not-is_plain.false) (ap Some c.at_most.ensures, refl)
 
 pub returns-then-not-is_plain : goal.returns-then-not-is_plain
@@ -33,5 +33,5 @@ returns-then-not-is_plain c =
       | in_default-2 w ↦ λ l. search rules
       | in_default-3 w ↦ λ l. search rules
     ]) in
-    let is = number_is 4294967296 c.args.most c.args.self.now.rest.now c.loop-rest.number rest (omega arith) past c.loop-rest.invariant in
+    let is = number_is c.args.most c.args.self.now.rest.now c.loop-rest.number rest past c.loop-rest.invariant in
     rw (is, ← c.is_plain.ensures, c.if-not-is_plain.true) refl
