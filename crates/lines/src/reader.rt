@@ -38,10 +38,10 @@ fn with_digit(number: u64, byte: u8, most: u32) -> u64
     requires { digit byte ≡ true }
     ensures { result ≡ (if nat_le number most then 10 * number + (byte - 48) else number) }
 {
-    if number <= u64::from(most) {
-        10 * number + u64::from(byte - b'0')
-    } else {
+    if number > u64::from(most) {
         number
+    } else {
+        10 * number + u64::from(byte - b'0')
     }
 }
 
@@ -139,7 +139,7 @@ impl<'a> Reader<'a> {
     }
 
     // Reads a line with a field for each of the largest numbers, whatever its letter.
-    // A line that is refused is not passed.
+    // A line that is refused is not passed. Inlined, since the numbers are then read where they are written.
     #[inline(always)]
     pub fn line(&mut self, limits: &Numbers) -> Result<Numbers, LineFault>
         ensures numbers { result ≡ read (line limits.now self.old.rest.now) }
