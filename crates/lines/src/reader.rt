@@ -112,6 +112,7 @@ impl<'a> Reader<'a> {
     }
 
     // The numbers of a line's fields, none inside where one is above the largest of its field.
+    #[inline(always)]
     fn fields(&mut self, limits: &Numbers) -> Option<Option<Numbers>>
         ensures { Reads (fields limits.now self.old.rest.now) result self.new.rest.now }
     {

@@ -112,6 +112,7 @@ impl Spelled for Line {
         }
     }
 
+    #[inline(always)]
     fn make(kind: Kind, numbers: &[u32]) -> Option<Line> {
         match (kind, numbers) {
             (Kind::Turn, [thread]) => Some(Line::Turn {
