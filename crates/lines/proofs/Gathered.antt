@@ -20,14 +20,6 @@ abbrev pub prepend : Option (List ℕ) → Option (Option (List ℕ) × List ℕ
 prepend a None = None
 prepend a (Some g) = Some (both a g.0, g.1)
 
-both_none : (b : Option (List ℕ)) → both (Some []) b ≡ b
-both_none None = refl
-both_none (Some b) = refl
-
-pub prepend_none : (f : Option (Option (List ℕ) × List ℕ)) → prepend (Some []) f ≡ f
-prepend_none None = refl
-prepend_none (Some g) = ap (λ b. Some (b, g.1)) (both_none g.0)
-
 both_first : (a : Option (List ℕ)) (v : Option ℕ) (b : Option (List ℕ)) → both a (with_first v b) ≡ both (both a (alone v)) b
 both_first None v b = refl
 both_first (Some a) None b = refl
