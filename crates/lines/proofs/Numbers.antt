@@ -24,9 +24,6 @@ pub record ReadTo (most : ℕ) (bs : List ℕ) (v : ℕ) (rest : List ℕ) : Typ
   pub value : up_to most (value_after v (digits rest)) ≡ up_to most (value_after 0 (digits bs))
   pub count : length (digits rest) + length bs ≡ length (digits bs) + length rest
 
-pub read_none_yet : (most : ℕ) (bs : List ℕ) → ReadTo most bs 0 bs
-read_none_yet most bs = let none : length bs - length bs ≡ 0 = omega arith in record { fewer = omega arith; left = rw none; value = refl; count = refl }
-
 drop_1 : (i n : ℕ) (bs : List ℕ) → i + 1 ≡ n → drop n bs ≡ drop 1 (drop i bs)
 drop_1 i n bs e = sym (ap (λ j. drop j bs) e) ∙ sym (drop-drop 1 i bs)
 

@@ -1,12 +1,9 @@
 use Rattle.std.proofs.Common.{◌≡◌, true, get_or, Some, refl, ap, rules, arith}
 use Rattle.std.proofs.lemmas.List.{take_rest}
 use Rattle.lines.specs.Fields.{digit}
-use Rattle.lines.proofs.Numbers.{Past, past_if, read_none_yet, read_one_more, number_is}
+use Rattle.lines.proofs.Numbers.{Past, past_if, read_one_more, number_is}
 use Rattle.lines.proofs.reader.Reader.number.Goals as goal
 use Rattle.lines.proofs.reader.Reader.number.Goals.{in_default, in_default-2, in_default-3}
-
-pub loop-rest-init : goal.loop-rest-init
-loop-rest-init c = read_none_yet _ _
 
 pub loop-rest-preserved : goal.loop-rest-preserved
 loop-rest-preserved c =
