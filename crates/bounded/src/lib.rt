@@ -2,6 +2,7 @@
 #![tactic(auto)]
 
 ghost use Rattle.std.specs.Prelude.{◌≡◌, ◌==◌, ◌≤◌, Bool, [], length, take, filter, slice_get};
+ghost use Rattle.std.specs.List.{prefix_len};
 ghost use Rattle.bounded.specs.Bounds.{add_answer, push_within, insert_within};
 
 use std::marker::Model;
@@ -129,14 +130,28 @@ impl<T: Copy, const N: usize> Bounded<T, N> {
     }
 }
 
+// How many elements are chosen at the front, before the first that is not.
+fn chosen_front<T: Copy, C: Choice<T>>(elements: &[T], choice: C) -> usize
+    ensures { result ≡ prefix_len (C.Choice.chooses choice) elements.now }
+{
+    for (k, element) in elements.iter().enumerate() {
+        if !choice.chooses(*element) {
+            return k;
+        }
+    }
+    elements.len()
+}
+
 // Moves the chosen elements to the front, in their order, and counts them.
 // By index, since what it reads and what it writes lie in one slice.
 fn to_front<T: Copy, C: Choice<T>>(elements: &mut [T], choice: C) -> usize
     ensures chosen { take result elements.new ≡ filter (C.Choice.chooses choice) elements.old }
     ensures bound { result ≤ length elements.old }
 {
-    let mut kept = 0;
-    for k in 0..elements.len() {
+    // where nothing is dropped, nothing is moved
+    let front = chosen_front(elements, choice);
+    let mut kept = front;
+    for k in front..elements.len() {
         if choice.chooses(elements[k]) {
             elements[kept] = elements[k];
             kept += 1;

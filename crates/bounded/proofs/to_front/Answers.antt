@@ -1,8 +1,12 @@
 use Rattle.std.proofs.Common.{◌≡◌, ◌<◌, length, arith, sym, ap, ◌∙◌}
 use Rattle.std.proofs.lemmas.List.{get_or_default}
 use Rattle.std.proofs.lemmas.List.Filters.{FiltersInPlace-more_set, FiltersInPlace-more_no}
+use Rattle.bounded.proofs.Kept.{front_stays}
 use Rattle.bounded.proofs.to_front.Goals.{then-chooses, else-chooses}
 use Rattle.bounded.proofs.to_front.Goals as goal
+
+pub loop-k-init : goal.loop-k-init
+loop-k-init g c = front_stays (g.C.Choice.chooses c.args.choice) c.args.elements.now c.chosen_front-front.result c.chosen_front-front.ensures
 
 pub loop-k-preserved : goal.loop-k-preserved
 loop-k-preserved g c =
