@@ -1,4 +1,3 @@
-mod InPlace
 mod Ups
 mod Fronts
 mod Placed

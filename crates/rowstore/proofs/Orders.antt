@@ -1,5 +1,5 @@
 -- The rows of a list of messages answer as the list does.
-use Rattle.std.proofs.Common.{◌≡◌, ℕ, zero, suc, ◌+◌, ◌<◌, ◌≤◌, max, Bool, true, false, cond, not, ◌&&◌, eqb, List, [], ◌∷◌, ◌++◌, length, take, Some, None, Option, sym, refl, ap, ◌∙◌, inl, inr, arith}
+use Rattle.std.proofs.Common.{◌≡◌, ℕ, zero, suc, ◌+◌, ◌<◌, ◌≤◌, max, Bool, true, false, cond, not, ◌&&◌, eqb, List, [], ◌∷◌, ◌++◌, length, take, drop, Some, None, Option, sym, refl, ap, ◌∙◌, inl, inr, arith}
 use Rattle.std.specs.List.{AllByRecursion as All}
 use Rattle.std.specs.Option.{option_or}
 use Rattle.std.proofs.Math.Bool.{and-true}
@@ -61,13 +61,32 @@ earlier_ordered_from : (y n k : ℕ) (ms : List Message) (es : List Entry) → n
 earlier_ordered_from y n k [] es l = refl
 earlier_ordered_from y n k (m ∷ ms) es l = earlier_ordered_from y n (k + 1) ms (taken y m k es) (omega arith) ∙ earlier_taken y n m k es l
 
-ordered_from_take : (y n j k : ℕ) (ms : List Message) (es : List Entry) → k + j ≡ n → All (λ e. e.number < n) es → earlier n (ordered_from y k ms es) ≡ ordered_from y k (take j ms) es
-ordered_from_take y n zero k ms es l h = earlier_ordered_from y n k ms es (omega arith) ∙ earlier_all n es h
-ordered_from_take y n (suc j) k [] es l h = earlier_all n es h
-ordered_from_take y n (suc j) k (m ∷ ms) es l h = ordered_from_take y n j (k + 1) ms (taken y m k es) (omega arith) (below_taken y n m k es (omega arith) h)
+-- row y, kept to those that arrived before n for each of the messages that is in it
+abbrev pub kept : ℕ → ℕ → List Message → List Entry → List Entry
+kept y n [] es = es
+kept y n (m ∷ ms) es = kept y n ms (cond (eqb (row_of m.location) y) (earlier n es) es)
 
-pub ordered_take : (y n : ℕ) (ms : List Message) → earlier n (ordered y ms) ≡ ordered y (take n ms)
-ordered_take y n ms = ordered_from_take y n n 0 ms [] (omega arith) tt
+kept_same : (y n : ℕ) (ms : List Message) (es : List Entry) → earlier n es ≡ es → kept y n ms es ≡ es
+kept_same y n [] es h = refl
+kept_same y n (m ∷ ms) es h =
+    ap (kept y n ms) (cond_both (eqb (row_of m.location) y) (earlier n es) es (λ as'. as' ≡ es) (λ _. h) (λ _. refl)) ∙ kept_same y n ms es h
+
+kept_ordered_from : (y n k : ℕ) (ms : List Message) (es : List Entry) → n ≤ k → earlier n es ≡ es → kept y n ms (ordered_from y k ms es) ≡ es
+kept_ordered_from y n k [] es l h = refl
+kept_ordered_from y n k (m ∷ ms) es l h = elim (cases_eq (row_of m.location) y) [
+  | inl e ↦
+      ap (kept y n ms) (cond-true _ _ _ (eq-eqb _ _ e) ∙ earlier_ordered_from y n k (m ∷ ms) es l ∙ h) ∙ kept_same y n ms es h
+  | inr e ↦
+      ap (kept y n ms) (cond-false _ _ _ (ne_eqb _ _ e) ∙ ap (ordered_from y (k + 1) ms) (cond-false _ _ _ (ne_eqb _ _ e))) ∙ kept_ordered_from y n (k + 1) ms es (omega arith) h
+]
+
+kept_drop_from : (y n j k : ℕ) (ms : List Message) (es : List Entry) → k + j ≡ n → All (λ e. e.number < n) es → kept y n (drop j ms) (ordered_from y k ms es) ≡ ordered_from y k (take j ms) es
+kept_drop_from y n zero k ms es l h = kept_ordered_from y n k ms es (omega arith) (earlier_all n es h)
+kept_drop_from y n (suc j) k [] es l h = refl
+kept_drop_from y n (suc j) k (m ∷ ms) es l h = kept_drop_from y n j (k + 1) ms (taken y m k es) (omega arith) (below_taken y n m k es (omega arith) h)
+
+pub kept_drop : (y n : ℕ) (ms : List Message) → kept y n (drop n ms) (ordered y ms) ≡ ordered y (take n ms)
+kept_drop y n ms = kept_drop_from y n n 0 ms [] (omega arith) tt
 
 -- a message that is not in the row of x is not at x
 elsewhere : (x : ℕ) (m : Message) → (row_of m.location ≡ row_of x → ⊥) → eqb m.location x ≡ false

@@ -1,6 +1,5 @@
 -- An index that has each row of the messages, and how it goes on.
-use Rattle.std.proofs.Common.{◌≡◌, ℕ, ◌<◌, List, [], ◌∷◌, ◌++◌, length, replicate, get_or, take, Ok, Err, Result, sym, ap, ◌∙◌, inl, inr, arith}
-use Rattle.std.proofs.Math.ListN.{get_or-map}
+use Rattle.std.proofs.Common.{◌≡◌, ℕ, zero, suc, ◌<◌, cond, eqb, List, [], ◌∷◌, ◌++◌, length, replicate, get_or, set, take, drop, Ok, Err, Result, sym, refl, ap, ◌∙◌, inl, inr, arith}
 use Rattle.std.proofs.lemmas.List.{get_or-set_same, get_or-set_other, get_or-replicate, ext_get_or}
 use Rattle.std.proofs.lemmas.Bool.{cond-true, cond-false, eq-eqb, ne_eqb, le-ltb, cases_eq, cases_lt}
 use Rattle.stores.specs.declared.kept.StoreFault.{StoreFault}
@@ -10,9 +9,27 @@ use Rattle.stores.specs.Memory.{add_answer}
 use Rattle.rowstore.specs.declared.entry.Entry.{Entry}
 use Rattle.rowstore.specs.declared.index.Index.{Index}
 use Rattle.rowstore.specs.Entries.{placed, earlier}
-use Rattle.rowstore.specs.Tables.{row_of, row_at, entry_of, empty, with_message, only_earlier}
+use Rattle.rowstore.specs.Tables.{row_of, row_at, entry_of, empty, with_message, only_earlier_in, only_earlier}
 use Rattle.rowstore.specs.Ordered.{ordered, Indexed}
-use Rattle.rowstore.proofs.Orders.{length_ordered, ordered_push, ordered_take}
+use Rattle.rowstore.proofs.Orders.{length_ordered, ordered_push, kept, kept_drop}
+
+kept_here : (n : ℕ) (rows : List (List Entry)) (r : ℕ) → get_or (set rows r (earlier n (get_or rows r []))) r [] ≡ earlier n (get_or rows r [])
+kept_here n [] r = refl
+kept_here n (es ∷ rows) zero = refl
+kept_here n (es ∷ rows) (suc r) = kept_here n rows r
+
+row_kept_in : (n y r : ℕ) (b : Index) → row_at (only_earlier_in r n b) y ≡ cond (eqb r y) (earlier n (row_at b y)) (row_at b y)
+row_kept_in n y r b = elim (cases_eq r y) [
+  | inl e ↦
+      ap (row_at (only_earlier_in r n b)) (sym e) ∙ kept_here n b.table.rows r ∙ ap (λ z. earlier n (row_at b z)) e ∙ sym (cond-true _ _ _ (eq-eqb r y e))
+  | inr ne ↦
+      get_or-set_other b.table.rows r y (earlier n (row_at b r)) [] (λ e. ne (sym e)) ∙ sym (cond-false _ _ _ (ne_eqb r y ne))
+]
+
+row_kept : (n y : ℕ) (ms : List Message) (b : Index) → row_at (only_earlier n ms b) y ≡ kept y n ms (row_at b y)
+row_kept n y [] b = refl
+row_kept n y (m ∷ ms) b =
+    row_kept n y ms (only_earlier_in (row_of m.location) n b) ∙ ap (kept y n ms) (row_kept_in n y (row_of m.location) b)
 
 module _ (ms : List Message) (b : Index) (indexed : Indexed ms b) where
   -- a row has room while the list is shorter than it
@@ -37,8 +54,8 @@ module _ (ms : List Message) (b : Index) (indexed : Indexed ms b) where
           get_or-set_other b.table.rows r y more [] (λ e. ne (sym e)) ∙ indexed y h ∙ sym (cond-false _ _ _ (ne_eqb r y ne)) ∙ sym (ordered_push y ms m)
     ]
 
-  pub indexed_kept : (n : ℕ) → Indexed (take n ms) (only_earlier n b)
-  indexed_kept n y h = get_or-map (earlier n) b.table.rows y [] ∙ ap (earlier n) (indexed y h) ∙ ordered_take y n ms
+  pub indexed_kept : (n : ℕ) → Indexed (take n ms) (only_earlier n (drop n ms) b)
+  indexed_kept n y h = row_kept n y (drop n ms) b ∙ ap (kept y n (drop n ms)) (indexed y h) ∙ kept_drop y n ms
 
 -- an arrival that is answered by Ok had room
 pub had_room : (ms : List Message) (r : Result Unit StoreFault) → r ≡ Ok tt → r ≡ add_answer 64 ms → length ms < 64

@@ -1,5 +1,5 @@
 -- The nine rows of an index.
-use Rattle.std.specs.Prelude.{ℕ, min, List, [], map, replicate, slice_index_or, slice_set}
+use Rattle.std.specs.Prelude.{ℕ, min, List, [], ◌∷◌, replicate, slice_index_or, slice_set}
 use Rattle.stores.specs.declared.message.Message.{Message}
 use Rattle.rowstore.specs.declared.entry.Entry.{Entry}
 use Rattle.rowstore.specs.declared.index.Index.{Index}
@@ -23,6 +23,12 @@ abbrev pub with_message : Index → Message → ℕ → Index
 with_message b m k =
     record { table = record { rows = slice_set b.table.rows (row_of m.location) (placed (entry_of m k) (row_at b (row_of m.location))) } }
 
--- each row without the entries whose arrival number is n or more
-abbrev pub only_earlier : ℕ → Index → Index
-only_earlier n b = record { table = record { rows = map (earlier n) b.table.rows } }
+-- row y without the entries whose arrival number is n or more
+abbrev pub only_earlier_in : ℕ → ℕ → Index → Index
+only_earlier_in y n b =
+    record { table = record { rows = slice_set b.table.rows y (earlier n (row_at b y)) } }
+
+-- the same of each row that one of the messages is in
+abbrev pub only_earlier : ℕ → List Message → Index → Index
+only_earlier n [] b = b
+only_earlier n (m ∷ ms) b = only_earlier n ms (only_earlier_in (row_of m.location) n b)

@@ -1,6 +1,6 @@
 // The rows of all messages, with no invariant of their own: one of them can be lent from here.
 ghost use Rattle.std.specs.Prelude.{◌≡◌, ◌<◌, length};
-ghost use Rattle.rowstore.specs.Tables.{row_of, row_at, with_message, empty, only_earlier};
+ghost use Rattle.rowstore.specs.Tables.{row_of, row_at, with_message, empty, only_earlier_in, only_earlier};
 
 use crate::entry::Entry;
 use crate::row::Row;
@@ -56,12 +56,19 @@ impl Index {
         });
     }
 
-    // drops the messages whose arrival number is n or more
-    pub(crate) fn keep(&mut self, n: usize)
-        ensures { self.new ≡ only_earlier n self.old }
+    // drops the messages whose arrival number is n or more, which are these: no other row has one
+    pub(crate) fn keep(&mut self, n: usize, dropped: &[Message])
+        ensures { self.new ≡ only_earlier n dropped.now self.old }
     {
-        for row in self.table.rows.iter_mut() {
-            row.keep(n);
+        for message in dropped {
+            self.keep_at(message.location, n);
         }
+    }
+
+    // drops the entries in the location's row whose arrival number is n or more
+    fn keep_at(&mut self, location: u8, n: usize)
+        ensures { self.new ≡ only_earlier_in (row_of location) n self.old }
+    {
+        self.table.row_mut(row_of(location)).keep(n);
     }
 }

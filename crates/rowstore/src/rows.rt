@@ -66,7 +66,7 @@ impl Store for Rows {
     }
 
     fn keep(&mut self, n: usize) {
+        self.index.keep(n, self.arrivals.since(n));
         self.arrivals.keep(n);
-        self.index.keep(n);
     }
 }

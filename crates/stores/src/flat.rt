@@ -1,5 +1,5 @@
 // The flat store: the messages as they arrived, in an array.
-ghost use Rattle.std.specs.Prelude.{◌≡◌, ◌≤◌, [], length};
+ghost use Rattle.std.specs.Prelude.{◌≡◌, ◌≤◌, [], length, drop};
 ghost use Rattle.stores.specs.Memory.{overlap_from};
 ghost use Rattle.std.proofs.Common.{rules};
 
@@ -23,6 +23,14 @@ impl Flat {
         Flat {
             messages: Bounded::new(Message::zero()),
         }
+    }
+
+    // the messages from the n-th on
+    pub fn since(&self, n: usize) -> &[Message]
+        ensures { result.now ≡ drop n self.now.messages }
+    {
+        let messages = self.messages.as_slice();
+        &messages[n.min(messages.len())..]
     }
 
     // The arrival number of the first message of the location that overlaps the span.

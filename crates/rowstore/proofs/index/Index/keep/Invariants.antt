@@ -1,6 +1,6 @@
-use Rattle.rowstore.specs.Entries.{earlier}
-use Rattle.rowstore.proofs.InPlace.{MapsInPlace}
+use Rattle.std.proofs.Common.{◌≡◌, drop}
+use Rattle.rowstore.specs.Tables.{only_earlier}
 use Rattle.rowstore.proofs.index.Index.keep.Given as goal
 
-abbrev pub invariant-loop-row : goal.invariant-loop-row
-invariant-loop-row l = MapsInPlace (earlier l.n) l.initial.row-items l.row-items l.row-index
+abbrev pub invariant-loop-message : goal.invariant-loop-message
+invariant-loop-message l = only_earlier l.n (drop l.message-index l.dropped) l.self ≡ only_earlier l.n l.dropped l.initial.self
