@@ -1,5 +1,5 @@
 -- What a row answers, past the entries at its front that end before a limit.
-use Rattle.std.proofs.Common.{◌≡◌, ℕ, suc, ◌+◌, ◌<◌, ◌≤◌, Bool, true, false, cond, not, ◌&&◌, ◌||◌, eqb, ltb, List, [], ◌∷◌, reverse, length, take, drop, Some, None, Option, sym, refl, ap, ◌∙◌, subst, ◌⊎◌, inl, inr, arith}
+use Rattle.std.proofs.Common.{◌≡◌, ℕ, suc, ◌+◌, ◌-◌, ◌<◌, ◌≤◌, Bool, true, false, cond, not, ◌&&◌, ◌||◌, eqb, ltb, List, [], ◌∷◌, reverse, length, get_or, take, drop, Some, None, Option, sym, refl, ap, ◌∙◌, subst, ◌⊎◌, inl, inr, arith}
 use Rattle.std.specs.List.{find, list_any, prefix_len, AllByRecursion as All}
 use Rattle.std.specs.List.Sorted.{IsPartitionPoint}
 use Rattle.std.specs.Option.{option_map, option_map_or, option_or}
@@ -10,7 +10,7 @@ use Rattle.std.proofs.lemmas.List.Sums.{prefix_len_is}
 use Rattle.std.proofs.lemmas.Bool.{cond-true, cond-false, lt-ltb, le-ltb, eq-eqb, ne_eqb, and_right, cases_lt, cases_eq, cond_both}
 use Rattle.lines.specs.declared.span.Span.{Span}
 use Rattle.rowstore.specs.declared.entry.Entry.{Entry}
-use Rattle.rowstore.specs.Entries.{before, number_at, clear, last_end}
+use Rattle.rowstore.specs.Entries.{InOrder, before, number_at, clear, last_end}
 use Rattle.rowstore.proofs.Ups.{Up}
 
 before_yes : (t : ℕ) (e : Entry) (es : List Entry) → e.span.to < t → before t (e ∷ es) ≡ suc (before t es)
@@ -152,10 +152,17 @@ module _ (x : ℕ) where
   pub last_end_found : (es : List Entry) → Up es → option_map_or (λ (e : Entry). e.span.to) (find here (reverse es)) 0 ≡ last_end x es
   last_end_found es u = (last_found es u).value
 
-none : Entry
+abbrev pub none : Entry
 none = record { location = 0; span = record { from = 0; to = 0 }; number = 0 }
 
 -- where a search by halving ends
 pub partition_is : (t n : ℕ) (es : List Entry) → n ≤ length es → IsPartitionPoint (λ (e : Entry). ltb e.span.to t ≡ true) (λ (e : Entry). ltb e.span.to t ≡ false) es n → n ≡ before t es
 partition_is t n es l p =
     sym (prefix_len_is (λ (e : Entry). ltb e.span.to t) es n none l (λ k h. p.0 k none (omega arith) h) (λ h. p.1 n none (omega arith) h))
+
+-- a place in a row where the entry in front ends before t, and the one that follows, if there is one, does not
+pub before_place : (t n : ℕ) (es : List Entry) → InOrder es → 1 ≤ n → n ≤ length es → (get_or es (n - 1) none).span.to < t → (n < length es → t ≤ (get_or es n none).span.to) → n ≡ before t es
+before_place t n es order first within early late =
+    sym (prefix_len_is (λ (e : Entry). ltb e.span.to t) es n none within
+    (λ k h. let l = order k (n - 1) none (omega arith) (omega arith) in lt-ltb _ _ (omega arith))
+    (λ h. le-ltb _ _ (late h)))
