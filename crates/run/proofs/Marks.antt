@@ -1,10 +1,24 @@
 -- Owed messages, as they are found by their numbers and by the marks beside them.
-use Rattle.std.proofs.Common.{◌≡◌, ℕ, suc, ◌+◌, ◌≤◌, Bool, false, cond, ◌&&◌, ◌||◌, List, [], ◌∷◌, length, get_or, zip, Some, refl, ap, ◌∙◌, arith}
+use Rattle.std.proofs.Common.{◌≡◌, ℕ, suc, ◌+◌, ◌≤◌, Bool, true, false, cond, ◌&&◌, ◌||◌, List, [], ◌∷◌, length, get_or, zip, Some, None, refl, ap, ◌∙◌, arith}
 use Rattle.std.specs.List.{range_with_len, find, list_any, position_from}
+use Rattle.std.proofs.lemmas.Bool.{false≢true}
+use Rattle.rules.specs.Threads.{none_owed}
 use Rattle.stores.specs.declared.message.Message.{Message}
 use Rattle.stores.specs.Memory.{zero_message}
 
 module _ (test : Message → Bool) where
+  pub none_first : (a : ℕ) (bs : List Bool) (ms : List Message) → none_owed bs ≡ true → None ≡ position_from (λ p. p.0 && test p.1) a (zip bs ms)
+  none_first a [] ms e = refl
+  none_first a (b ∷ bs) [] e = refl
+  none_first a (true ∷ bs) (m ∷ ms) e = absurd (false≢true e)
+  none_first a (false ∷ bs) (m ∷ ms) e = none_first (a + 1) bs ms e
+
+  pub none_some : (bs : List Bool) (ms : List Message) → none_owed bs ≡ true → false ≡ list_any (λ p. p.0 && test p.1) (zip bs ms)
+  none_some [] ms e = refl
+  none_some (b ∷ bs) [] e = refl
+  none_some (true ∷ bs) (m ∷ ms) e = absurd (false≢true e)
+  none_some (false ∷ bs) (m ∷ ms) e = none_some bs ms e
+
   -- message k is marked and passes the test
   abbrev pub passes_at : List Bool → List Message → ℕ → Bool
   passes_at bs ms k = get_or bs k false && test (get_or ms k zero_message)

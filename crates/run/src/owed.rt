@@ -19,7 +19,10 @@ impl Owed {
     pub(crate) fn new() -> Owed
         ensures { result.marks ≡ replicate 64 false }
     {
-        Owed { marks: [false; 64] }
+        Owed {
+            marks: [false; 64],
+            count: 0,
+        }
     }
 
     pub(crate) fn is_owed(&self, k: usize) -> bool
@@ -31,7 +34,7 @@ impl Owed {
     pub(crate) fn none(&self) -> bool
         ensures { result ≡ none_owed self.now.marks }
     {
-        self.marks.iter().all(|mark| !*mark)
+        self.count == 0
     }
 
     // nothing past the last mark
@@ -39,7 +42,9 @@ impl Owed {
         ensures { self.new.marks ≡ slice_set self.old.marks k owed }
     {
         if k < 64 {
+            let others = self.count - self.marks[k] as usize;
             self.marks[k] = owed;
+            self.count = others + owed as usize;
         }
     }
 
@@ -47,6 +52,9 @@ impl Owed {
     pub(crate) fn owes_at<S: Store>(&self, store: &S, location: u8) -> bool
         ensures { result ≡ owes_at location self.now.marks (S.Store.held store.now) }
     {
+        if self.none() {
+            return false;
+        }
         (0..store.len()).any(|k| self.is_owed(k) && message_at(store, k).location == location)
     }
 
@@ -54,6 +62,9 @@ impl Owed {
     pub(crate) fn find<S: Store>(&self, store: &S, location: u8, end: End) -> Option<usize>
         ensures { result ≡ find_owed location end self.now.marks (S.Store.held store.now) }
     {
+        if self.none() {
+            return None;
+        }
         (0..store.len()).find(|k| self.is_owed(*k) && message_at(store, *k).ends_at(location, end))
     }
 }

@@ -1,5 +1,6 @@
 // The parts of a run that know neither its language nor its store.
 ghost use Rattle.std.specs.Prelude.{◌≡◌, length};
+ghost use Rattle.std.specs.List.{count_by};
 ghost use Rattle.stores.specs.Views.{Below};
 ghost use Rattle.run.specs.Orders.{AllBelow};
 
@@ -17,12 +18,14 @@ pub struct ThreadViews {
     ghost rel_cur: { AllBelow rel cur },
 }
 
-// A mark for each arrival number, set where the thread owes that message.
+// A mark for each arrival number, set where the thread owes that message, and how many are set.
 // Beside the messages, since a message knows no thread and the store no marks.
 #[derive(Clone, Copy)]
 pub struct Owed {
     pub(crate) marks: [bool; 64],
+    pub(crate) count: usize,
     ghost whole: { length marks ≡ 64 },
+    ghost counted: { count ≡ count_by (λ mark. mark) marks },
 }
 
 // The closing line of a showing: the greatest end of each location when it began.

@@ -3,12 +3,16 @@ use Rattle.std.specs.Option.{option_map}
 use Rattle.std.proofs.lemmas.Iterator.{YieldsList-from_range}
 use Rattle.std.proofs.lemmas.Iterator.Search.{find_from_yields_List}
 use Rattle.stores.specs.Memory.{ends_at}
-use Rattle.run.proofs.Marks.{passes_at, first_marked}
+use Rattle.run.proofs.Marks.{passes_at, first_marked, none_first}
 use Rattle.run.proofs.parts.Owed.find.Goals as goal
 
 same : (r : Option ℕ) → option_map (λ n. n) r ≡ r
 same None = refl
 same (Some n) = refl
+
+pub returns-then-none : goal.returns-then-none
+returns-then-none g c =
+    none_first (ends_at c.args.location c.args.end) 0 c.args.self.now.marks (g.S.Store.held c.args.store.now) (sym c.none.ensures ∙ c.if-none.true)
 
 pub returns : goal.returns
 returns g c =

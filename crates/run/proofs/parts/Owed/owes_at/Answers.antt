@@ -1,9 +1,13 @@
-use Rattle.std.proofs.Common.{eqb, refl, ◌∙◌, arith, rules, tests}
+use Rattle.std.proofs.Common.{eqb, sym, refl, ◌∙◌, arith, rules, tests}
 use Rattle.std.proofs.lemmas.Iterator.{YieldsList-from_range}
 use Rattle.std.proofs.lemmas.Iterator.Search.{any_from_yields_List}
 use Rattle.stores.specs.declared.message.Message.{Message}
-use Rattle.run.proofs.Marks.{passes_at, some_marked}
+use Rattle.run.proofs.Marks.{passes_at, some_marked, none_some}
 use Rattle.run.proofs.parts.Owed.owes_at.Goals as goal
+
+pub returns-then-none : goal.returns-then-none
+returns-then-none g c =
+    none_some (λ (m : Message). eqb m.location c.args.location) c.args.self.now.marks (g.S.Store.held c.args.store.now) (sym c.none.ensures ∙ c.if-none.true)
 
 pub returns : goal.returns
 returns g c =
