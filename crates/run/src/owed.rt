@@ -22,6 +22,8 @@ impl Owed {
         Owed {
             marks: [false; 64],
             count: 0,
+            from: 64,
+            to: 0,
         }
     }
 
@@ -45,6 +47,13 @@ impl Owed {
             let others = self.count - self.marks[k] as usize;
             self.marks[k] = owed;
             self.count = others + owed as usize;
+            if owed {
+                self.from = self.from.min(k);
+                self.to = self.to.max(k + 1);
+            } else if self.count == 0 {
+                self.from = 64;
+                self.to = 0;
+            }
         }
     }
 
@@ -52,19 +61,15 @@ impl Owed {
     pub(crate) fn owes_at<S: Store>(&self, store: &S, location: u8) -> bool
         ensures { result ≡ owes_at location self.now.marks (S.Store.held store.now) }
     {
-        if self.none() {
-            return false;
-        }
-        (0..store.len()).any(|k| self.is_owed(k) && message_at(store, k).location == location)
+        let mut numbers = self.from..self.to.min(store.len());
+        numbers.any(|k| self.is_owed(k) && message_at(store, k).location == location)
     }
 
     // the arrival number of the owed message of the location with that end
     pub(crate) fn find<S: Store>(&self, store: &S, location: u8, end: End) -> Option<usize>
         ensures { result ≡ find_owed location end self.now.marks (S.Store.held store.now) }
     {
-        if self.none() {
-            return None;
-        }
-        (0..store.len()).find(|k| self.is_owed(*k) && message_at(store, *k).ends_at(location, end))
+        let mut numbers = self.from..self.to.min(store.len());
+        numbers.find(|k| self.is_owed(*k) && message_at(store, *k).ends_at(location, end))
     }
 }

@@ -1,5 +1,5 @@
 // The parts of a run that know neither its language nor its store.
-ghost use Rattle.std.specs.Prelude.{◌≡◌, length};
+ghost use Rattle.std.specs.Prelude.{◌≡◌, ℕ, ◌<◌, ◌≤◌, false, length, slice_index_or};
 ghost use Rattle.std.specs.List.{count_by};
 ghost use Rattle.stores.specs.Views.{Below};
 ghost use Rattle.run.specs.Orders.{AllBelow};
@@ -18,14 +18,19 @@ pub struct ThreadViews {
     ghost rel_cur: { AllBelow rel cur },
 }
 
-// A mark for each arrival number, set where the thread owes that message, and how many are set.
+// A mark for each arrival number, set where the thread owes that message; how many are set, and between which
+// numbers all of them lie, so that what is owed is found without a look at every mark.
 // Beside the messages, since a message knows no thread and the store no marks.
 #[derive(Clone, Copy)]
 pub struct Owed {
     pub(crate) marks: [bool; 64],
     pub(crate) count: usize,
+    pub(crate) from: usize,
+    pub(crate) to: usize,
     ghost whole: { length marks ≡ 64 },
     ghost counted: { count ≡ count_by (λ mark. mark) marks },
+    ghost before: { (k : ℕ) → k < from → slice_index_or marks k false ≡ false },
+    ghost past: { (k : ℕ) → to ≤ k → slice_index_or marks k false ≡ false },
 }
 
 // The closing line of a showing: the greatest end of each location when it began.
