@@ -112,15 +112,14 @@ pub(crate) fn write<L: Language, S: Store>(
         return Err(StepFault::TooNew);
     }
     check_span(&shared.store, turn.closing, location, span)?;
-    let mut views = thread.views;
-    views.write(mode, location, span.to);
+    let views = &thread.views;
     shared.store.add(Message {
         location,
         span,
         value,
-        view: views.released(location),
+        view: views.rel_written(views.cur, mode, location, span.to),
     })?;
-    thread.views = views;
+    thread.views.write(mode, location, span.to);
     thread.state.go_on(0);
     Ok(())
 }
@@ -145,16 +144,17 @@ fn update_from<L: Language, S: Store>(
         return Err(StepFault::Value);
     };
     check_span(&shared.store, closing, location, span)?;
-    let mut views = thread.views;
-    views.read(modes.0, location, span.from, read.view);
-    views.write(modes.1, location, span.to);
+    let views = &thread.views;
+    let cur = views.cur_read(modes.0, location, span.from, read.view);
+    let released = views.rel_written(cur, modes.1, location, span.to);
     shared.store.add(Message {
         location,
         span,
         value,
-        view: views.released(location).join(read.view),
+        view: released.join(read.view),
     })?;
-    thread.views = views;
+    thread.views.read(modes.0, location, span.from, read.view);
+    thread.views.write(modes.1, location, span.to);
     thread.state.go_on(read.value);
     Ok(())
 }

@@ -2,7 +2,7 @@
 ghost use Rattle.std.specs.Prelude.{◌≡◌, slice_set};
 ghost use Rattle.stores.specs.Views.{at};
 ghost use Rattle.rules.specs.Models.{fresh_views};
-ghost use Rattle.rules.specs.Threads.{rel_at, read_views, write_rel, write_views, acquire_views, release_views, all_views};
+ghost use Rattle.rules.specs.Threads.{rel_at, read_cur, read_views, write_rel, write_views, acquire_views, release_views, all_views};
 ghost use Rattle.run.specs.Models.{views_of};
 ghost use Rattle.run.specs.Orders.{acquired};
 
@@ -68,6 +68,25 @@ impl ThreadViews {
         rel.copied().unwrap_or(View::zero())
     }
 
+    // what cur is after a read of the message of the location that ends at `end`, with its view
+    pub(crate) fn cur_read(&self, mode: ReadMode, location: u8, end: End, view: View) -> View
+        ensures { result ≡ read_cur mode location end view self.now.cur }
+    {
+        let one = View::single(location, end);
+        read_into(mode, self.cur.join(one), view)
+    }
+
+    // what rel of the location is after a write of a message that ends at `end`, where cur was this view before it
+    pub(crate) fn rel_written(&self, cur: View, mode: WriteMode, location: u8, end: End) -> View
+        ensures { result ≡ rel_at (write_views mode location end (record { cur = cur; acq = self.now.acq; rel = self.now.rel })) location }
+    {
+        if location >= 8 {
+            return View::zero();
+        }
+        let one = View::single(location, end);
+        released_into(mode, self.released(location).join(one), cur.join(one))
+    }
+
     // after a read of the message of the location that ends at `end`, with its view
     pub(crate) fn read(&mut self, mode: ReadMode, location: u8, end: End, view: View)
         ensures { views_of self.new ≡ read_views mode location end view (views_of self.old) }
@@ -86,10 +105,10 @@ impl ThreadViews {
         let one = View::single(location, end);
         let cur = self.cur.join(one);
         let acq = self.acq.join(one);
-        let mut rel = self.rel;
         let released = released_into(mode, self.released(location).join(one), cur);
-        put(&mut rel, location, released);
-        *self = ThreadViews { cur, acq, rel };
+        self.cur = cur;
+        self.acq = acq;
+        put(&mut self.rel, location, released);
     }
 
     // cur becomes acq

@@ -1,4 +1,4 @@
-use Rattle.std.proofs.Common.{get_or, sym, ap, ◌∙◌, subst}
+use Rattle.std.proofs.Common.{length, get_or, sym, ap, ◌∙◌, subst, length-set}
 use Rattle.stores.specs.declared.view.View.{View}
 use Rattle.stores.specs.Views.{zero_view, join, Below}
 use Rattle.stores.proofs.ViewLaws.{join_left}
@@ -18,7 +18,7 @@ invariant_of-self c =
     let written = c.released_into-released.ensures ∙ (λ i. write_rel c.args.mode (rel i) (cur i)) in
     let below = rel_below c.args.mode (get_or s.rel x zero_view) s.cur one (s.rel_cur x) in
     record {
-      eight = c.put.array_long;
+      eight = ap length c.put.ensures ∙ length-set s.rel x _ ∙ s.eight;
       cur_acq = subst (λ (v : View). Below v c.join-acq.result) (sym cur) (subst (Below (join s.cur one)) (sym c.join-acq.ensures.value) (join_keeps s.cur s.acq one s.cur_acq));
       rel_cur =
           subst (λ rs. AllBelow rs now) (sym c.put.ensures)
