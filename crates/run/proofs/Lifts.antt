@@ -1,5 +1,5 @@
 -- A thread's own step, as a step of the run.
-use Rattle.std.proofs.Common.{◌≡◌, ℕ, ◌<◌, Bool, true, false, cond, ◌⊎◌, List, map, length, get_or, take, set, Ok, Result, sym, refl, ap, ◌∙◌, subst, inl, inr}
+use Rattle.std.proofs.Common.{◌≡◌, ℕ, ◌<◌, Bool, true, false, cond, List, map, length, get_or, take, set, Ok, Result, sym, refl, ap, ◌∙◌, subst}
 use Rattle.std.proofs.Math.Seq.{take-set-lt}
 use Rattle.std.proofs.lemmas.Bool.{cond-true, cond-false}
 use Rattle.std.proofs.lemmas.List.{get_or-map, get_or-take, map-set, set-get_or}
@@ -17,9 +17,9 @@ use Rattle.run.specs.declared.state.Thread.{Thread}
 use Rattle.run.specs.declared.state.Shared.{Shared}
 use Rattle.run.specs.declared.state.Saved.{Saved}
 use Rattle.run.specs.declared.state.Phase.{Phase}
-use Rattle.run.specs.declared.state.Phase.TheVariants.{Between, Turn, Showing}
+use Rattle.run.specs.declared.state.Phase.TheVariants.{Turn, Showing}
 use Rattle.run.specs.Models.{log_of, thread_of, saved_of, phase_of, part_of}
-use Rattle.run.specs.Turns.{whose}
+use Rattle.run.specs.Turns.{whose, part_back}
 
 pub agrees_by : {Y : Type 0} {t u : Tried Y} (y : Y) (r : Result (Unit {0}) StepFault) (z : Y) → t ≡ u → Agrees u y r z → Agrees t y r z
 agrees_by {Y = Y} y r z e h = subst (λ (t : Tried Y). Agrees t y r z) (sym e) h
@@ -111,30 +111,30 @@ module _ {L S : Type 0} (l : Language L) (s : Store S) (locations count : ℕ) w
   pub showing_is : (ph : Phase L) (i : ℕ) (sv : Saved L) → ph ≡ Showing i sv → phase_of l ph ≡ showing (whose ph) (saved_of l sv) sv.closing.ends
   showing_is ph i sv e = ap (phase_of l) e ∙ ap (λ (k : ℕ). showing k (saved_of l sv) sv.closing.ends) (sym (ap whose e))
 
-  abbrev ending : List (Thread L) → Shared S → Phase L → ℕ → Tried model.Run
-  ending ths sh ph i = cond (owed_by ths i) (went (in_phase (undone (whole ths sh (phase_of l ph))) between)) (refused StillOwing)
-
-  not_showing : (ths : List (Thread L)) (sh : Shared S) (ph : Phase L) → (ph ≡ Between) ⊎ ((x : ℕ) × (ph ≡ Turn x))
-      → undone (whole ths sh (phase_of l ph)) ≡ whole ths sh (phase_of l ph)
-  not_showing ths sh Between h = refl
-  not_showing ths sh (Turn i) h = refl
-  not_showing ths sh (Showing i sv) (inl e) = cc
-  not_showing ths sh (Showing i sv) (inr e) = let q = e.1 in cc
-
-  -- the end of a turn
-  pub ended_turn : (ths : List (Thread L)) (sh : Shared S) (ph ph' : Phase L) (i : ℕ) → (ph ≡ Between) ⊎ ((x : ℕ) × (ph ≡ Turn x))
-      → ph' ≡ Between → owed_by ths i ≡ true
-      → Agrees (ending ths sh ph i) (whole ths sh (phase_of l ph)) (Ok tt) (whole ths sh (phase_of l ph'))
-  ended_turn ths sh ph ph' i h e' b =
-      agrees_by _ _ _ (cond-true _ _ _ b)
-      (refl, ap (λ (p : Phase L). whole ths sh (phase_of l p)) e' ∙ ap (λ (r : model.Run). in_phase r between) (sym (not_showing ths sh ph h)))
-
-  -- the end of a showing
-  pub ended_showing : (ths : List (Thread L)) (sh : Shared S) (ph ph' : Phase L) (i : ℕ) (sv : Saved L) (m' : model.Run) → ph ≡ Showing i sv
-      → ph' ≡ Between → owed_by ths (whose ph) ≡ true → m' ≡ in_phase (put_back (whole ths sh (phase_of l ph')) i (saved_of l sv)) (phase_of l ph')
-      → Agrees (ending ths sh ph (whose ph)) (whole ths sh (phase_of l ph)) (Ok tt) m'
-  ended_showing ths sh ph ph' i sv m' e e' b h =
+  -- a showing put back
+  pub undone_showing : (ths : List (Thread L)) (sh sh' : Shared S) (ph : Phase L) (i w : ℕ) (sv : Saved L) (th th' : Thread L) → ph ≡ Showing i sv → w ≡ whose ph → w < count
+      → part_of l s th' sh' ≡ part_back (saved_of l sv) (part_of l s th sh)
+      → whole (set ths w th') sh' (phase_of l ph) ≡ in_phase (undone (whole ths sh (phase_of l ph))) (phase_of l ph)
+  undone_showing ths sh sh' ph i w sv th th' e ew few h =
       let m : model.Run = whole ths sh (phase_of l ph) in
-      let back : undone m ≡ put_back m i (saved_of l sv) = ap (λ (p : Phase L). undone (whole ths sh (phase_of l p))) e in
-      agrees_by _ _ _ (cond-true _ _ _ b)
-      (refl, h ∙ ap (λ (p : Phase L). in_phase (put_back m i (saved_of l sv)) (phase_of l p)) e' ∙ ap (λ (r : model.Run). in_phase r between) (sym back))
+      let as_is : model.Run → model.Run = λ r. in_phase r (phase_of l ph) in
+      let end : List model.Thread → model.Run =
+      λ ks.
+      record {
+        locations = locations;
+        threads = ks;
+        memory = s.held sh'.store;
+        capacity = s.capacity sh'.store;
+        sc = sh'.sc;
+        log = log_of sh'.log;
+        phase = phase_of l ph;
+      } in
+      let who : w ≡ i = ew ∙ ap whose e in
+      ap end (threads_set ths w th' few) ∙ ap (λ (p : model.Part). as_is (with_part m w p)) h ∙ ap (λ (n : ℕ). as_is (put_back m n (saved_of l sv))) who
+      ∙ sym (ap (λ (p : Phase L). as_is (undone (whole ths sh (phase_of l p)))) e)
+
+  -- the end of a turn or of a showing, from the run that is put back
+  pub ended : (ths : List (Thread L)) (sh : Shared S) (ph : model.Phase) (w : ℕ) (m' : model.Run) → owed_by ths w ≡ true
+      → m' ≡ in_phase (undone (whole ths sh ph)) ph
+      → Agrees (cond (owed_by ths w) (went (in_phase (undone (whole ths sh ph)) between)) (refused StillOwing)) (whole ths sh ph) (Ok tt) (in_phase m' between)
+  ended ths sh ph w m' b h = agrees_by _ _ _ (cond-true _ _ _ b) (refl, ap (λ (r : model.Run). in_phase r between) h)

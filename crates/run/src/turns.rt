@@ -3,10 +3,10 @@ ghost use Rattle.std.specs.Prelude.{◌≡◌, ◌<◌, if◌then◌else◌, Som
 ghost use Rattle.rules.specs.declared.fault.StepFault.TheVariants.{Moment, StillOwing};
 ghost use Rattle.rules.specs.Models.{between, turn, thread_at, part_at, in_phase};
 ghost use Rattle.rules.specs.Threads.{none_owed};
-ghost use Rattle.rules.specs.Rules.{went, refused, lifted, act_result, promise_result, show_in, put_back};
+ghost use Rattle.rules.specs.Rules.{went, refused, lifted, act_result, promise_result, show_in};
 ghost use Rattle.rules.specs.Histories.{undone};
-ghost use Rattle.run.specs.Models.{PartAgrees, run_of, RunAgrees, line_of, saved_of};
-ghost use Rattle.run.specs.Turns.{whose};
+ghost use Rattle.run.specs.Models.{part_of, PartAgrees, run_of, RunAgrees, line_of, saved_of};
+ghost use Rattle.run.specs.Turns.{whose, part_back};
 
 use crate::accesses::{read, update, write};
 use crate::parts::{Closing, Turn};
@@ -17,7 +17,6 @@ use languages::language::Language;
 use lines::span::Span;
 use lines::trace::Line;
 use rules::fault::StepFault;
-use std::mem;
 use stores::store::Store;
 
 // a line by which the thread whose turn it is acts
@@ -40,6 +39,17 @@ fn act<L: Language, S: Store>(
             StepFault::Moment,
         ),
     }
+}
+
+// what a showing of the thread saved
+// Copied, since a phase that is taken apart would be moved whole before its thread is.
+fn put_back<L: Language, S: Store>(thread: &mut Thread<L>, shared: &mut Shared<S>, saved: &Saved<L>)
+    ensures { part_of L.Language S.Store thread.new shared.new ≡ part_back (saved_of L.Language saved.now) (part_of L.Language S.Store thread.old shared.old) }
+{
+    *thread = saved.thread.copied();
+    shared.sc = saved.sc;
+    shared.store.keep(saved.messages);
+    shared.log.keep(saved.prints);
 }
 
 impl<L: Language, S: Store> Run<L, S> {
@@ -120,34 +130,29 @@ impl<L: Language, S: Store> Run<L, S> {
             return Err(StepFault::Moment);
         }
         let i = self.whose();
-        let saved = Saved {
-            thread: self.threads[i as usize].copied(),
-            sc: self.shared.sc,
-            messages: self.shared.store.len(),
-            prints: self.shared.log.len(),
-            closing: Closing::of(&self.shared.store),
-        };
-        self.phase = Phase::Showing(i, saved);
+        self.phase = Phase::Showing(
+            i,
+            Saved {
+                thread: self.threads[i as usize].copied(),
+                sc: self.shared.sc,
+                messages: self.shared.store.len(),
+                prints: self.shared.log.len(),
+                closing: Closing::of(&self.shared.store),
+            },
+        );
         Ok(())
     }
 
-    // what a showing of thread i saved
-    // The thread is one of this run's: its own number of threads bounds it, and no type can say which run that is.
-    fn put_back(&mut self, i: u8, saved: Saved<L>)
-        requires { i < self.old.scope.threads }
-        ensures { (run_of L.Language S.Store self.new) ≡ in_phase (put_back (run_of L.Language S.Store self.old) i (saved_of L.Language saved)) (run_of L.Language S.Store self.old).phase }
+    // what a showing saved, where there is one; the phase stays
+    fn undo(&mut self)
+        ensures { let r = run_of L.Language S.Store self.old in run_of L.Language S.Store self.new ≡ in_phase (undone r) r.phase }
     {
-        let Saved {
-            thread,
-            sc,
-            messages,
-            prints,
-            closing: _,
-        } = saved;
-        self.threads[i as usize] = thread;
-        self.shared.sc = sc;
-        self.shared.store.keep(messages);
-        self.shared.log.keep(prints);
+        let i = self.whose();
+        let thread = &mut self.threads[i as usize];
+        match &self.phase {
+            Phase::Between | Phase::Turn(_) => {}
+            Phase::Showing(_, saved) => put_back(thread, &mut self.shared, saved),
+        }
     }
 
     // E in the turn or the showing of that thread
@@ -157,10 +162,8 @@ impl<L: Language, S: Store> Run<L, S> {
         if !self.owes_none() {
             return Err(StepFault::StillOwing);
         }
-        match mem::replace(&mut self.phase, Phase::Between) {
-            Phase::Between | Phase::Turn(_) => {}
-            Phase::Showing(i, saved) => self.put_back(i, saved),
-        }
+        self.undo();
+        self.phase = Phase::Between;
         Ok(())
     }
 }
