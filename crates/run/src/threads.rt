@@ -29,4 +29,13 @@ impl<L: Language> Thread<L> {
             owed: self.owed,
         }
     }
+
+    // becomes a copy of the other, part by part, so that no whole thread is made to be moved
+    pub(crate) fn become_copy(&mut self, other: &Thread<L>)
+        ensures { thread_of L.Language self.new ≡ thread_of L.Language other.now }
+    {
+        self.state = other.state.copy();
+        self.views = other.views;
+        self.owed = other.owed;
+    }
 }

@@ -42,11 +42,11 @@ fn act<L: Language, S: Store>(
 }
 
 // what a showing of the thread saved
-// Copied, since a phase that is taken apart would be moved whole before its thread is.
+// Copied, since a phase that is taken apart is moved whole before its thread is.
 fn put_back<L: Language, S: Store>(thread: &mut Thread<L>, shared: &mut Shared<S>, saved: &Saved<L>)
     ensures { part_of L.Language S.Store thread.new shared.new ≡ part_back (saved_of L.Language saved.now) (part_of L.Language S.Store thread.old shared.old) }
 {
-    *thread = saved.thread.copied();
+    thread.become_copy(&saved.thread);
     shared.sc = saved.sc;
     shared.store.keep(saved.messages);
     shared.log.keep(saved.prints);
@@ -133,11 +133,11 @@ impl<L: Language, S: Store> Run<L, S> {
         self.phase = Phase::Showing(
             i,
             Saved {
-                thread: self.threads[i as usize].copied(),
+                closing: Closing::of(&self.shared.store),
                 sc: self.shared.sc,
                 messages: self.shared.store.len(),
                 prints: self.shared.log.len(),
-                closing: Closing::of(&self.shared.store),
+                thread: self.threads[i as usize].copied(),
             },
         );
         Ok(())

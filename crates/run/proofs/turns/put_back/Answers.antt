@@ -8,7 +8,7 @@ returns g c =
     let sh = c.args.shared.now in
     let log_kept = ap log_of c.keep-2.ensures ∙ sym (take-map print_of c.args.saved.now.prints sh.log) in
     λ j. record {
-      thread = c.copied.ensures j;
+      thread = c.become_copy.ensures j;
       memory = c.keep.ensures.after j;
       capacity = c.keep.ensures.same j;
       sc = c.args.saved.now.sc;
