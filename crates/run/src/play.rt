@@ -24,21 +24,17 @@ impl<L: Language, S: Store> Run<L, S> {
     }
 
     // N, R, W, U or H of the thread whose turn or showing it is
+    #[inline(always)]
     fn step_of_thread(&mut self, line: Line) -> Result<(), StepFault>
         ensures { RunAgrees L.Language S.Store (λ r. act_in r line r.phase) self.old result self.new }
     {
-        match &self.phase {
-            Phase::Between => Err(StepFault::Moment),
-            Phase::Turn(_) => self.act(None, line),
-            Phase::Showing(_, saved) => {
-                let closing = saved.closing;
-                self.act_showing(closing, line)
-            }
-        }
+        let closing = self.may_act()?;
+        self.act(closing, line)
     }
 
     // a line in range: the line and the phase together decide whether this is its moment
     // Each pair is an arm of its own: where arms are joined, the proof does not learn which line and phase it is.
+    #[inline(always)]
     fn at_moment(&mut self, line: Line) -> Result<(), StepFault>
         requires { in_range line (run_of L.Language S.Store self.old) ≡ true }
         ensures { RunAgrees L.Language S.Store (moment_result line) self.old result self.new }
@@ -72,6 +68,7 @@ impl<L: Language, S: Store> Run<L, S> {
     }
 
     // One line: accepted, or refused with the run unchanged.
+    #[inline(always)]
     pub fn step(&mut self, line: Line) -> Result<(), StepFault>
         ensures { Agrees (line_result line (run_of L.Language S.Store self.old)) (run_of L.Language S.Store self.old) result (run_of L.Language S.Store self.new) }
     {

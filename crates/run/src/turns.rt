@@ -6,6 +6,7 @@ ghost use Rattle.rules.specs.Threads.{none_owed};
 ghost use Rattle.rules.specs.Rules.{went, refused, lifted, act_result, promise_result, show_in};
 ghost use Rattle.rules.specs.Histories.{undone};
 ghost use Rattle.run.specs.Models.{part_of, PartAgrees, run_of, RunAgrees, line_of, saved_of};
+ghost use Rattle.run.specs.Moments.{closing_of, may_act_in};
 ghost use Rattle.run.specs.Turns.{whose, part_back};
 
 use crate::accesses::{read, update, write};
@@ -21,6 +22,7 @@ use stores::store::Store;
 
 // a line by which the thread whose turn it is acts
 // Thread and shared stay two borrows of one run: a struct of both would be made only to be taken apart.
+#[inline(always)]
 fn act<L: Language, S: Store>(
     thread: &mut Thread<L>,
     shared: &mut Shared<S>,
@@ -71,6 +73,23 @@ impl<L: Language, S: Store> Run<L, S> {
         self.threads[self.whose() as usize].owed.none()
     }
 
+    // the closing line above which that thread has to write, none in a turn; or why no thread may act:
+    // between turns, and in a showing once nothing is owed
+    pub(crate) fn may_act(&self) -> Result<Option<Closing>, StepFault>
+        ensures { let r = run_of L.Language S.Store self.now in closing_of result ≡ may_act_in r r.phase }
+    {
+        match &self.phase {
+            Phase::Between => Err(StepFault::Moment),
+            Phase::Turn(_) => Ok(None),
+            Phase::Showing(_, saved) => {
+                if self.owes_none() {
+                    return Err(StepFault::Moment);
+                }
+                Ok(Some(saved.closing))
+            }
+        }
+    }
+
     // T i
     // The thread is one of this run's: its own number of threads bounds it, and no type can say which run that is.
     pub(crate) fn begin(&mut self, i: u8) -> Result<(), StepFault>
@@ -82,6 +101,7 @@ impl<L: Language, S: Store> Run<L, S> {
     }
 
     // N, R, W, U and H of that thread
+    #[inline(always)]
     pub(crate) fn act(&mut self, closing: Option<Closing>, line: Line) -> Result<(), StepFault>
         ensures { let i = whose self.old.phase in RunAgrees L.Language S.Store (λ r. lifted r i (act_result r.locations i (line_of closing) line (part_at r i))) self.old result self.new }
     {
@@ -96,16 +116,6 @@ impl<L: Language, S: Store> Run<L, S> {
             turn,
             line,
         )
-    }
-
-    // the same in a showing: once nothing is owed, none of these lines may follow
-    pub(crate) fn act_showing(&mut self, closing: Closing, line: Line) -> Result<(), StepFault>
-        ensures { let i = whose self.old.phase in RunAgrees L.Language S.Store (λ r. if none_owed (thread_at r i).owed then refused Moment else lifted r i (act_result r.locations i (Some closing.ends) line (part_at r i))) self.old result self.new }
-    {
-        if self.owes_none() {
-            return Err(StepFault::Moment);
-        }
-        self.act(Some(closing), line)
     }
 
     // G x v f t of that thread
@@ -123,6 +133,7 @@ impl<L: Language, S: Store> Run<L, S> {
     }
 
     // X in the turn of that thread
+    #[inline(always)]
     pub(crate) fn show(&mut self) -> Result<(), StepFault>
         ensures { let i = whose self.old.phase in RunAgrees L.Language S.Store (λ r. show_in r (turn i)) self.old result self.new }
     {
@@ -144,6 +155,7 @@ impl<L: Language, S: Store> Run<L, S> {
     }
 
     // what a showing saved, where there is one; the phase stays
+    #[inline(always)]
     fn undo(&mut self)
         ensures { let r = run_of L.Language S.Store self.old in run_of L.Language S.Store self.new ≡ in_phase (undone r) r.phase }
     {
@@ -156,6 +168,7 @@ impl<L: Language, S: Store> Run<L, S> {
     }
 
     // E in the turn or the showing of that thread
+    #[inline(always)]
     pub(crate) fn end(&mut self) -> Result<(), StepFault>
         ensures { let i = whose self.old.phase in RunAgrees L.Language S.Store (λ r. if none_owed (thread_at r i).owed then went (in_phase (undone r) between) else refused StillOwing) self.old result self.new }
     {
