@@ -21,22 +21,26 @@ impl View {
     }
 
     // {x@t}: the end t at location x, and 0 elsewhere
+    // By a product, so that no jump hangs on the location.
+    #[inline(always)]
     pub fn single(location: u8, end: End) -> View
         ensures value { result ≡ single location end }
         ensures places { OnlyAt location end result }
     {
         View {
-            ends: array::from_fn(|x| if x == usize::from(location) { end } else { 0 }),
+            ends: array::from_fn(|x| end * u16::from(x as u16 == u16::from(location))),
         }
     }
 
     // 0 past the last location
+    #[inline(always)]
     pub fn at(self, location: u8) -> End
         ensures { result ≡ at self location }
     {
         self.ends.get(usize::from(location)).copied().unwrap_or(0)
     }
 
+    #[inline(always)]
     pub fn join(self, other: View) -> View
         ensures value { result ≡ join self other }
         ensures places { GreaterAtEach self other result }
