@@ -168,6 +168,7 @@ impl<'a> Language for RegisterThread<'a> {
 
     ghost located = { register_located };
 
+    #[inline(always)]
     fn next(&self) -> Action {
         match self.current() {
             Some(line) => self.action(line),
@@ -175,6 +176,7 @@ impl<'a> Language for RegisterThread<'a> {
         }
     }
 
+    #[inline(always)]
     fn takes(&self, value: u16) -> Taking {
         match self.current() {
             Some(RegisterLine::Load { .. }) => Taking::OnlyRead,
@@ -200,6 +202,7 @@ impl<'a> Language for RegisterThread<'a> {
         }
     }
 
+    #[inline(always)]
     fn go_on(&mut self, value: u16) {
         if let Some(line) = self.current() {
             self.pass(line, value);

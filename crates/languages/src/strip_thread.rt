@@ -53,6 +53,7 @@ impl<'a> Language for StripThread<'a> {
 
     ghost located = { strip_located };
 
+    #[inline(always)]
     fn next(&self) -> Action {
         let Some(line) = self.current() else {
             return Action::Ended;
@@ -83,6 +84,7 @@ impl<'a> Language for StripThread<'a> {
         }
     }
 
+    #[inline(always)]
     fn takes(&self, value: u16) -> Taking {
         match self.current() {
             Some(StripLine::Read { value: wanted, .. }) => {
@@ -99,6 +101,7 @@ impl<'a> Language for StripThread<'a> {
         }
     }
 
+    #[inline(always)]
     fn go_on(&mut self, _value: u16) {
         if self.current().is_some() {
             self.line += 1;

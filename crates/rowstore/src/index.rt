@@ -18,6 +18,7 @@ pub struct Index {
 }
 
 // each of the eight locations has a row of its own, and all others share the ninth
+#[inline(always)]
 fn row_of(location: u8) -> usize
     ensures { result ≡ row_of location }
 {
@@ -36,6 +37,7 @@ impl Index {
     }
 
     // the row of the location
+    #[inline(always)]
     pub(crate) fn row(&self, location: u8) -> &Row
         ensures { result.now ≡ row_at self.now (row_of location) }
     {
@@ -43,6 +45,7 @@ impl Index {
     }
 
     // the message that arrived as that number goes into the row of its location
+    #[inline(always)]
     pub(crate) fn add(&mut self, message: Message, number: u8)
         requires { length (row_at self.old (row_of message.location)) < 64 }
         ensures after { self.new ≡ with_message self.old message number }

@@ -56,6 +56,7 @@ impl Row {
 
     // how many entries end before the limit
     // The last two are asked first, since most questions are about a row's end; then by halving.
+    #[inline(always)]
     pub(crate) fn before(&self, limit: u32) -> usize
         ensures value { result ≡ before limit self.now }
         ensures within { result ≤ length self.now }
@@ -69,6 +70,7 @@ impl Row {
     }
 
     // the arrival number of the first entry of the location with that end
+    #[inline(always)]
     pub(crate) fn find(&self, location: u8, end: End) -> Option<usize>
         ensures { result ≡ number_at location end self.now }
     {
@@ -81,6 +83,7 @@ impl Row {
     }
 
     // whether the span overlaps no entry of the location
+    #[inline(always)]
     pub(crate) fn is_free(&self, location: u8, span: Span) -> bool
         ensures { result ≡ clear location span self.now }
     {
@@ -103,6 +106,7 @@ impl Row {
     }
 
     // puts the entry after those that end no later
+    #[inline(always)]
     pub(crate) fn insert(&mut self, entry: Entry)
         requires { length self.old < 64 }
         ensures { self.new ≡ placed entry self.old }

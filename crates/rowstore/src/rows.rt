@@ -38,6 +38,7 @@ impl Store for Rows {
 
     ghost small = { Prim.search rules };
 
+    #[inline(always)]
     fn add(&mut self, message: Message) -> Result<(), StoreFault> {
         let number = self.arrivals.len();
         self.arrivals.add(message)?;
@@ -45,10 +46,12 @@ impl Store for Rows {
         Ok(())
     }
 
+    #[inline(always)]
     fn find(&self, location: u8, end: End) -> Option<usize> {
         self.index.row(location).find(location, end)
     }
 
+    #[inline(always)]
     fn is_free(&self, location: u8, span: Span) -> bool {
         self.index.row(location).is_free(location, span)
     }
@@ -57,10 +60,12 @@ impl Store for Rows {
         self.index.row(location).greatest_end(location)
     }
 
+    #[inline(always)]
     fn nth(&self, k: usize) -> Kept {
         self.arrivals.nth(k)
     }
 
+    #[inline(always)]
     fn len(&self) -> usize {
         self.arrivals.len()
     }

@@ -29,6 +29,7 @@ fn reads(action: Action) -> Option<(u8, ReadMode)>
 }
 
 // R t: reads the message of the location that ends at t, a value that is only read
+#[inline(always)]
 pub(crate) fn read<L: Language, S: Store>(
     thread: &mut Thread<L>,
     shared: &Shared<S>,
@@ -71,6 +72,7 @@ fn release_owes<L: Language, S: Store>(
 }
 
 // whether the span can be written, or why not
+#[inline(always)]
 pub(crate) fn check_span<S: Store>(
     store: &S,
     closing: Option<Closing>,
@@ -89,6 +91,7 @@ pub(crate) fn check_span<S: Store>(
 }
 
 // W f t: writes a message with the span (f, t]
+#[inline(always)]
 pub(crate) fn write<L: Language, S: Store>(
     thread: &mut Thread<L>,
     shared: &mut Shared<S>,
@@ -125,6 +128,7 @@ pub(crate) fn write<L: Language, S: Store>(
 }
 
 // the update from the message that arrived as number k
+#[inline(always)]
 fn update_from<L: Language, S: Store>(
     thread: &mut Thread<L>,
     shared: &mut Shared<S>,
@@ -160,6 +164,7 @@ fn update_from<L: Language, S: Store>(
 }
 
 // U f t: reads the message that ends at f, a value that is replaced, and writes one with the span (f, t]
+#[inline(always)]
 pub(crate) fn update<L: Language, S: Store>(
     thread: &mut Thread<L>,
     shared: &mut Shared<S>,

@@ -43,6 +43,7 @@ pub(crate) fn promise<L: Language, S: Store>(
 }
 
 // H t: keeps the promise of the location that ends at t, by a relaxed write of its value
+#[inline(always)]
 pub(crate) fn keep<L: Language, S: Store>(
     thread: &mut Thread<L>,
     shared: &Shared<S>,

@@ -76,6 +76,7 @@ fn print<L: Language, S: Store>(
 }
 
 // N: a silent step, a fence or a print
+#[inline(always)]
 pub(crate) fn next<L: Language, S: Store>(
     thread: &mut Thread<L>,
     shared: &mut Shared<S>,

@@ -88,6 +88,7 @@ impl ThreadViews {
     }
 
     // after a read of the message of the location that ends at `end`, with its view
+    #[inline(always)]
     pub(crate) fn read(&mut self, mode: ReadMode, location: u8, end: End, view: View)
         ensures { views_of self.new ≡ read_views mode location end view (views_of self.old) }
     {
@@ -99,6 +100,7 @@ impl ThreadViews {
     }
 
     // after a write of a message of the location that ends at `end`
+    #[inline(always)]
     pub(crate) fn write(&mut self, mode: WriteMode, location: u8, end: End)
         ensures { views_of self.new ≡ write_views mode location end (views_of self.old) }
     {
