@@ -4,10 +4,10 @@ ghost use Rattle.std.specs.Result.{OkIff};
 ghost use Rattle.jobs.specs.Jobs.{Job, language_of, job_lines, JobFits, job_of};
 ghost use Rattle.jobs.specs.JobCodec.{job_codec};
 
-use bounded::Bounded;
 use lines::family::Spelled;
-use lines::reader::LineFault;
+use lines::reader::{LineFault, Numbers};
 use lines::scope::Scope;
+use lines::{MOST_LOCATIONS, MOST_THREADS};
 
 #[derive(Clone, Copy, PartialEq, Eq, Debug)]
 pub enum LanguageChoice {
@@ -58,8 +58,8 @@ impl Spelled for JobLine {
         }
     }
 
-    fn limits(_kind: (), _scope: ()) -> Bounded<u32, 6> {
-        Bounded::from_slice(&[1, 4, 8], 0)
+    fn limits(_kind: (), _scope: ()) -> Numbers {
+        Numbers::from_slice(&[1, u32::from(MOST_THREADS), u32::from(MOST_LOCATIONS)], 0)
     }
 
     fn make(_kind: (), numbers: &[u32]) -> Option<JobLine> {

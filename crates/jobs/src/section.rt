@@ -3,9 +3,9 @@ ghost use Rattle.std.specs.Prelude.{◌≡◌};
 ghost use Rattle.jobs.specs.Sections.{section_lines, SectionFits};
 ghost use Rattle.jobs.specs.SectionCodec.{section_codec};
 
-use bounded::Bounded;
 use lines::MOST_FIELD;
 use lines::family::Spelled;
+use lines::reader::Numbers;
 
 // Where a section begins in the file, and its length, in bytes.
 #[derive(Clone, Copy, PartialEq, Eq, Debug)]
@@ -46,8 +46,8 @@ impl Spelled for Section {
         }
     }
 
-    fn limits(_kind: (), _scope: ()) -> Bounded<u32, 6> {
-        Bounded::from_slice(&[MOST_FIELD, MOST_FIELD], 0)
+    fn limits(_kind: (), _scope: ()) -> Numbers {
+        Numbers::from_slice(&[MOST_FIELD, MOST_FIELD], 0)
     }
 
     fn make(_kind: (), numbers: &[u32]) -> Option<Section> {

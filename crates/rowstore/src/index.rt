@@ -5,10 +5,9 @@ ghost use Rattle.rowstore.specs.Tables.{row_of, row_at, with_message, empty, onl
 use crate::entry::Entry;
 use crate::row::Row;
 use crate::table::Table;
+use lines::MOST_LOCATIONS;
 use std::array;
 use stores::message::Message;
-
-const LOCATIONS: u8 = 8;
 
 const ROWS: usize = 9;
 
@@ -22,7 +21,7 @@ pub struct Index {
 fn row_of(location: u8) -> usize
     ensures { result ≡ row_of location }
 {
-    usize::from(location.min(LOCATIONS))
+    usize::from(location.min(MOST_LOCATIONS))
 }
 
 impl Index {
