@@ -86,3 +86,7 @@ register_lines l =
 -- each number of the line is in range
 abbrev pub RegisterFits : ℕ → RegisterLine → Type 0
 RegisterFits l a = InRange (register_limits l (register_kind a)) (register_numbers a)
+
+-- the line for the places past a program's last
+abbrev pub register_filling : RegisterLine
+register_filling = line.Print 0

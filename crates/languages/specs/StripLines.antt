@@ -61,3 +61,7 @@ strip_lines l =
 -- each number of the line is in range
 abbrev pub StripFits : ℕ → StripLine → Type 0
 StripFits l a = InRange (strip_limits l (strip_kind a)) (strip_numbers a)
+
+-- the line for the places past a program's last
+abbrev pub strip_filling : StripLine
+strip_filling = line.Print 0

@@ -18,8 +18,11 @@ pub trait ProgramLine: Copy {
         ensures value { result ≡ read (reads scope.locations reader.old.rest.now) }
         ensures left { reader.new.rest.now ≡ unread (reads scope.locations reader.old.rest.now) reader.old.rest.now };
 
-    // Some line, for the places past the last one.
-    fn filler() -> Self;
+    // The line for the places past the last one.
+    ghost filling: { Self };
+
+    fn filler() -> Self
+        ensures { result ≡ filling };
 
     ghost shortens: { (l : ℕ) → l ≤ 8 → (bs : List ℕ) (line : Self) (rest : List ℕ) → reads l bs ≡ Ok (line, rest) → length rest < length bs };
 }

@@ -1,12 +1,11 @@
 // Register lines and strip lines are lines of programs.
 ghost use Rattle.lines.specs.Families.{reads as family_reads};
-ghost use Rattle.languages.specs.RegisterLines.{register_lines};
-ghost use Rattle.languages.specs.StripLines.{strip_lines};
+ghost use Rattle.languages.specs.RegisterLines.{register_filling, register_lines};
+ghost use Rattle.languages.specs.StripLines.{strip_filling, strip_lines};
 ghost use Rattle.lines.proofs.Familiar.{reads_shorter};
 ghost use Rattle.languages.specs.RegisterCodec.{register_codec};
 ghost use Rattle.languages.specs.StripCodec.{strip_codec};
 
-use crate::action::FenceKind;
 use crate::program::ProgramLine;
 use crate::registers::RegisterLine;
 use crate::strips::StripLine;
@@ -16,6 +15,8 @@ use lines::scope::Scope;
 
 // An impl each, since one for all `Spelled` lines would leave no other crate an impl of its own.
 impl ProgramLine for RegisterLine {
+    ghost filling = { register_filling };
+
     ghost reads = { λ l bs. family_reads (register_lines l) bs };
 
     ghost shortens = { λ l h bs line rest e. reads_shorter (register_lines l) (register_codec l h) bs line rest e };
@@ -25,13 +26,13 @@ impl ProgramLine for RegisterLine {
     }
 
     fn filler() -> RegisterLine {
-        RegisterLine::Fence {
-            kind: FenceKind::Acquire,
-        }
+        RegisterLine::Print { register: 0 }
     }
 }
 
 impl ProgramLine for StripLine {
+    ghost filling = { strip_filling };
+
     ghost reads = { λ l bs. family_reads (strip_lines l) bs };
 
     ghost shortens = { λ l h bs line rest e. reads_shorter (strip_lines l) (strip_codec l h) bs line rest e };
@@ -41,8 +42,6 @@ impl ProgramLine for StripLine {
     }
 
     fn filler() -> StripLine {
-        StripLine::Fence {
-            kind: FenceKind::Acquire,
-        }
+        StripLine::Print { value: 0 }
     }
 }
