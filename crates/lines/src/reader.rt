@@ -121,6 +121,7 @@ impl<'a> Reader<'a> {
         for most in limits.as_slice() {
             match self.field(*most)? {
                 Some(number) => {
+                    // never refused, as there are at most as many limits as there is room
                     let _ = numbers.push(number);
                 }
                 None => within = false,

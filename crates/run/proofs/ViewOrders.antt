@@ -1,18 +1,22 @@
 -- The order of a thread's views under reads and writes.
-use Rattle.std.proofs.Common.{ℕ, zero, suc, List, [], ◌∷◌, get_or, set}
+use Rattle.std.proofs.Common.{◌≡◌, refl, ℕ, zero, suc, List, [], ◌∷◌, get_or, set}
 use Rattle.languages.specs.declared.action.ReadMode.{ReadMode}
 use Rattle.languages.specs.declared.action.ReadMode.TheVariants.{Relaxed as RelaxedRead, Acquire}
 use Rattle.languages.specs.declared.action.WriteMode.{WriteMode}
 use Rattle.languages.specs.declared.action.WriteMode.TheVariants.{Relaxed, Release}
 use Rattle.stores.specs.declared.view.View.{View}
-use Rattle.stores.specs.Views.{zero_view, join, Below}
+use Rattle.stores.specs.Views.{zero_view, single, join, Below}
 use Rattle.stores.proofs.ViewLaws.{join_left, join_right, join_least, below_refl, below_trans}
-use Rattle.rules.specs.Threads.{write_rel}
+use Rattle.rules.specs.Threads.{read_cur, write_rel}
 use Rattle.run.specs.Orders.{AllBelow, acquired}
 
 -- a join with one view keeps the order
 pub join_keeps : (a b v : View) → Below a b → Below (join a v) (join b v)
 join_keeps a b v h = join_least a v (join b v) (below_trans a b (join b v) h (join_left b v)) (join_right b v)
+
+pub cur_after : (o : ReadMode) (x t : ℕ) (m c : View) → read_cur o x t m c ≡ acquired o (join c (single x t)) m
+cur_after RelaxedRead x t m c = refl
+cur_after Acquire x t m c = refl
 
 acquired_above : (o : ReadMode) (c m : View) → Below c (acquired o c m)
 acquired_above RelaxedRead c m = below_refl c

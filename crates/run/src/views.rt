@@ -93,7 +93,7 @@ impl ThreadViews {
         ensures { views_of self.new ≡ read_views mode location end view (views_of self.old) }
     {
         let one = View::single(location, end);
-        let cur = read_into(mode, self.cur.join(one), view);
+        let cur = self.cur_read(mode, location, end, view);
         let acq = self.acq.join(one).join(view);
         self.cur = cur;
         self.acq = acq;
