@@ -18,7 +18,7 @@ pub trait ProgramLine: Copy {
         ensures value { result ≡ read (reads scope.locations reader.old.rest.now) }
         ensures left { reader.new.rest.now ≡ unread (reads scope.locations reader.old.rest.now) reader.old.rest.now };
 
-    // The line for the places past the last one.
+    // The line for the places past the last one. Nothing that a program answers shows it.
     ghost filling: { Self };
 
     fn filler() -> Self

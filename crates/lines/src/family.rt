@@ -39,7 +39,7 @@ pub trait Spelled: Copy {
             → Within 0 ((family scope).limits kind) numbers.now
             → option_map shown result ≡ (family scope).make kind numbers.now };
 
-    // Reads the line in front. A line that is refused is not passed. Inlined, since the line then needs no memory.
+    // Reads the line in front. A line that is refused is not passed. Inlined, so that a line can stay in registers.
     #[inline(always)]
     final fn read(reader: &mut Reader, scope: Self::Scope) -> Result<Self, LineFault>
         ensures value { seen shown result ≡ read (reads (family scope) reader.old.rest.now) }

@@ -141,7 +141,7 @@ impl<'a> Reader<'a> {
     }
 
     // Reads a line with a field for each of the largest numbers, whatever its letter.
-    // A line that is refused is not passed. Inlined, since the numbers are then read where they are written.
+    // A line that is refused is not passed. Inlined, so that the numbers need not be moved.
     #[inline(always)]
     pub fn line(&mut self, limits: &Numbers) -> Result<Numbers, LineFault>
         ensures numbers { result ≡ read (line limits.now self.old.rest.now) }

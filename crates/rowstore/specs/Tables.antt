@@ -28,7 +28,7 @@ abbrev pub only_earlier_in : ℕ → ℕ → Index → Index
 only_earlier_in y n b =
     record { table = record { rows = slice_set b.table.rows y (earlier n (row_at b y)) } }
 
--- the same of each row that one of the messages is in
+-- the same in the row of each of the messages, one after another
 abbrev pub only_earlier : ℕ → List Message → Index → Index
 only_earlier n [] b = b
 only_earlier n (m ∷ ms) b = only_earlier n ms (only_earlier_in (row_of m.location) n b)

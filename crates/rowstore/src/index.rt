@@ -58,7 +58,7 @@ impl Index {
         });
     }
 
-    // drops the messages whose arrival number is n or more, which are these: no other row has one
+    // drops the entries whose arrival number is n or more, in the rows of these messages
     pub(crate) fn keep(&mut self, n: usize, dropped: &[Message])
         ensures { self.new ≡ only_earlier n dropped.now self.old }
     {

@@ -93,15 +93,10 @@ closing_line ms = record { ends = map (λ x. greatest_end x ms) (range_with_len 
 abbrev pub saved : Run → ℕ → Saved
 saved r i = record { thread = thread_at r i; sc = r.sc; messages = length r.memory; prints = length r.log }
 
--- the run at the moment of X
+-- a thread and what it shares, as they were at X
+abbrev pub part_back : Saved → Part → Part
+part_back s p = record { thread = s.thread; memory = take s.messages p.memory; capacity = p.capacity; sc = s.sc; log = take s.prints p.log }
+
+-- the run as it was at X
 abbrev pub put_back : Run → ℕ → Saved → Run
-put_back r i s =
-    record {
-      locations = r.locations;
-      threads = slice_set r.threads i s.thread;
-      memory = take s.messages r.memory;
-      capacity = r.capacity;
-      sc = s.sc;
-      log = take s.prints r.log;
-      phase = turn i;
-    }
+put_back r i s = in_phase (with_part r i (part_back s (part_at r i))) (turn i)

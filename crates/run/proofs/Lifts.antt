@@ -9,7 +9,7 @@ use Rattle.stores.specs.declared.store.Store.{Ghosts as Store}
 use Rattle.rules.specs.declared.fault.StepFault.{StepFault}
 use Rattle.rules.specs.Models as model
 use Rattle.rules.specs.declared.fault.StepFault.TheVariants.{StillOwing}
-use Rattle.rules.specs.Models.{between, turn, showing, nobody, part_at, with_part, in_phase}
+use Rattle.rules.specs.Models.{between, turn, showing, nobody, part_at, with_part, part_back, in_phase}
 use Rattle.rules.specs.Threads.{none_owed}
 use Rattle.rules.specs.Histories.{undone}
 use Rattle.rules.specs.Rules.{Tried, went, refused, Agrees, lifted, show_in, put_back, closing_line}
@@ -19,7 +19,7 @@ use Rattle.run.specs.declared.state.Saved.{Saved}
 use Rattle.run.specs.declared.state.Phase.{Phase}
 use Rattle.run.specs.declared.state.Phase.TheVariants.{Turn, Showing}
 use Rattle.run.specs.Models.{log_of, thread_of, saved_of, phase_of, part_of}
-use Rattle.run.specs.Turns.{whose, part_back}
+use Rattle.run.specs.Turns.{whose}
 
 pub agrees_by : {Y : Type 0} {t u : Tried Y} (y : Y) (r : Result (Unit {0}) StepFault) (z : Y) → t ≡ u → Agrees u y r z → Agrees t y r z
 agrees_by {Y = Y} y r z e h = subst (λ (t : Tried Y). Agrees t y r z) (sym e) h

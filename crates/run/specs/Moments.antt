@@ -44,6 +44,7 @@ may_act_in r between = Err Moment
 may_act_in r (turn i) = Ok None
 may_act_in r (showing i s closing) = if none_owed (thread_at r i).owed then Err Moment else Ok (Some closing)
 
+-- the same, of a closing line of the code
 abbrev pub closing_of : Result (Option Closing) StepFault → Result (Option View) StepFault
 closing_of (Ok closing) = Ok (line_of closing)
 closing_of (Err e) = Err e

@@ -115,6 +115,7 @@ pub(crate) fn write<L: Language, S: Store>(
         return Err(StepFault::TooNew);
     }
     check_span(&shared.store, turn.closing, location, span)?;
+    // The views change only once the store has taken the message, so its view is found first.
     let views = &thread.views;
     shared.store.add(Message {
         location,

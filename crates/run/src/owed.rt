@@ -47,6 +47,7 @@ impl Owed {
             let others = self.count - self.marks[k] as usize;
             self.marks[k] = owed;
             self.count = others + owed as usize;
+            // the range grows with each mark, and begins anew once none is set
             if owed {
                 self.from = self.from.min(k);
                 self.to = self.to.max(k + 1);

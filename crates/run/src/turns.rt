@@ -1,13 +1,13 @@
 // The lines of a turn and of a showing.
 ghost use Rattle.std.specs.Prelude.{◌≡◌, ◌<◌, if◌then◌else◌, Some};
 ghost use Rattle.rules.specs.declared.fault.StepFault.TheVariants.{Moment, StillOwing};
-ghost use Rattle.rules.specs.Models.{between, turn, thread_at, part_at, in_phase};
+ghost use Rattle.rules.specs.Models.{between, turn, thread_at, part_at, part_back, in_phase};
 ghost use Rattle.rules.specs.Threads.{none_owed};
 ghost use Rattle.rules.specs.Rules.{went, refused, lifted, act_result, promise_result, show_in};
 ghost use Rattle.rules.specs.Histories.{undone};
 ghost use Rattle.run.specs.Models.{part_of, PartAgrees, run_of, RunAgrees, line_of, saved_of};
 ghost use Rattle.run.specs.Moments.{closing_of, may_act_in};
-ghost use Rattle.run.specs.Turns.{whose, part_back};
+ghost use Rattle.run.specs.Turns.{whose};
 
 use crate::accesses::{read, update, write};
 use crate::parts::{Closing, Turn};
@@ -43,7 +43,7 @@ fn act<L: Language, S: Store>(
     }
 }
 
-// what a showing of the thread saved
+// puts back what a showing of the thread saved
 // Copied, since a phase that is taken apart is moved whole before its thread is.
 fn put_back<L: Language, S: Store>(thread: &mut Thread<L>, shared: &mut Shared<S>, saved: &Saved<L>)
     ensures { part_of L.Language S.Store thread.new shared.new ≡ part_back (saved_of L.Language saved.now) (part_of L.Language S.Store thread.old shared.old) }
@@ -154,7 +154,7 @@ impl<L: Language, S: Store> Run<L, S> {
         Ok(())
     }
 
-    // what a showing saved, where there is one; the phase stays
+    // puts back what a showing saved, where there is one; the phase stays
     #[inline(always)]
     fn undo(&mut self)
         ensures { let r = run_of L.Language S.Store self.old in run_of L.Language S.Store self.new ≡ in_phase (undone r) r.phase }

@@ -8,7 +8,7 @@ ghost use Rattle.run.specs.Orders.{acquired};
 
 use crate::parts::ThreadViews;
 use languages::action::{ReadMode, WriteMode};
-use lines::End;
+use lines::{End, MOST_LOCATIONS};
 use stores::view::View;
 
 // Acquire and release are modes of two types: one function for both would first make a flag of each.
@@ -36,7 +36,7 @@ fn released_into(mode: WriteMode, rel: View, cur: View) -> View
 fn put(rel: &mut [View; 8], location: u8, view: View)
     ensures { rel.new ≡ slice_set rel.old location view }
 {
-    if location < 8 {
+    if location < MOST_LOCATIONS {
         rel[location as usize] = view;
     }
 }
@@ -76,11 +76,12 @@ impl ThreadViews {
         read_into(mode, self.cur.join(one), view)
     }
 
-    // what rel of the location is after a write of a message that ends at `end`, where cur was this view before it
+    // what rel of the location is after a write of a message that ends at `end`, where cur was this view before it:
+    // an update reads first
     pub(crate) fn rel_written(&self, cur: View, mode: WriteMode, location: u8, end: End) -> View
         ensures { result ≡ rel_at (write_views mode location end (record { cur = cur; acq = self.now.acq; rel = self.now.rel })) location }
     {
-        if location >= 8 {
+        if location >= MOST_LOCATIONS {
             return View::zero();
         }
         let one = View::single(location, end);

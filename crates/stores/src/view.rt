@@ -21,7 +21,7 @@ impl View {
     }
 
     // {x@t}: the end t at location x, and 0 elsewhere
-    // By a product, so that no jump hangs on the location.
+    // A product of 16-bit numbers at each location: all eight are made at once, with no jump.
     #[inline(always)]
     pub fn single(location: u8, end: End) -> View
         ensures value { result ≡ single location end }
