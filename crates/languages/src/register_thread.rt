@@ -103,6 +103,7 @@ impl<'a> RegisterThread<'a> {
     }
 
     // Goes on past a line with the value read.
+    #[inline(always)]
     fn pass(&mut self, line: RegisterLine, value: u16)
         requires { self.old.line < length self.old.program.now }
         ensures { register_state self.new ≡ (line_means (register_state self.old) line).goes_on value }

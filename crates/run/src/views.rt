@@ -69,6 +69,7 @@ impl ThreadViews {
     }
 
     // what cur is after a read of the message of the location that ends at `end`, with its view
+    #[inline(always)]
     pub(crate) fn cur_read(&self, mode: ReadMode, location: u8, end: End, view: View) -> View
         ensures { result ≡ read_cur mode location end view self.now.cur }
     {
@@ -78,6 +79,7 @@ impl ThreadViews {
 
     // what rel of the location is after a write of a message that ends at `end`, where cur was this view before it:
     // an update reads first
+    #[inline(always)]
     pub(crate) fn rel_written(&self, cur: View, mode: WriteMode, location: u8, end: End) -> View
         ensures { result ≡ rel_at (write_views mode location end (record { cur = cur; acq = self.now.acq; rel = self.now.rel })) location }
     {
