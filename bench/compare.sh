@@ -3,13 +3,19 @@
 #   bench/compare.sh ARCHIVE FUNCTION [COUNT [SEED]]   random jobs, 200,000 when not said
 #   bench/compare.sh --speed ARCHIVE FUNCTION [SEED]   times on long accepted jobs
 # FUNCTION is its C name: size_t FUNCTION(const uint8_t *, size_t, uint8_t *, size_t).
+# ARCHIVE may be the word own: the library judge_c of this repository, which is proved and built first.
 set -eu
 here=$(cd "$(dirname "$0")" && pwd)
 built=$here/rust/target/release
 
 build() {
+    local archive=$1
+    if [ "$archive" = own ]; then
+        (cd "$here/../crates/judge_c" && rt lib) >&2
+        archive=$here/../crates/judge_c/out/libjudge_c.a
+    fi
     cargo build --release --quiet --manifest-path "$here/rust/Cargo.toml"
-    cc -O2 -Wall -Wextra -DJUDGE="$2" -o "$built/driver" "$here/driver.c" "$1"
+    cc -O2 -Wall -Wextra -DJUDGE="$2" -o "$built/driver" "$here/driver.c" "$archive"
 }
 
 compare_reports() {
@@ -58,6 +64,6 @@ if [ "${1:-}" = --speed ]; then
 elif [ $# -ge 2 ]; then
     compare_reports "$@"
 else
-    sed -n '2,5s/^# \{0,1\}//p' "$0"
+    sed -n '2,6s/^# \{0,1\}//p' "$0"
     exit 2
 fi
