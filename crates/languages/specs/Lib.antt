@@ -3,6 +3,7 @@ pub mod Modes
 pub mod RegisterLines
 pub mod StripLines
 pub mod Programs
+pub mod ProgramLaws
 pub mod Meanings
 pub mod Strips
 pub mod Registers

@@ -12,7 +12,7 @@ use Rattle.std.proofs.lemmas.Option.{none-some}
 use Rattle.lines.proofs.Options.{some_same, err_ok, ok_same}
 use Rattle.lines.proofs.Spelled.{line_written, line_is_written, range_length, range_within}
 
-right_lookup : {K : Type 0} (letter_of : K → ℕ) (ts : List (ℕ × K)) (c : ℕ) (k : K) → Right letter_of ts → lookup ts c ≡ Some k → letter_of k ≡ c
+pub right_lookup : {K : Type 0} (letter_of : K → ℕ) (ts : List (ℕ × K)) (c : ℕ) (k : K) → Right letter_of ts → lookup ts c ≡ Some k → letter_of k ≡ c
 right_lookup letter_of [] c k right e = absurd (none-some _ e)
 right_lookup letter_of (t ∷ ts) c k right e = elim (cases_Bool (eqb c t.0)) [
   | inl same ↦ ap letter_of (sym (some_same (rw same at e))) ∙ right.0 ∙ sym (eqb-true c t.0 same)

@@ -4,5 +4,6 @@ pub mod Gathered
 pub mod Answered
 pub mod Spelled
 pub mod Familiar
+pub mod Unread
 pub mod Walked
 pub mod Sections

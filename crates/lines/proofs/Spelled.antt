@@ -11,7 +11,7 @@ use Rattle.lines.specs.Fields.{digit, digits, value_after, plain, up_to, number,
 use Rattle.lines.specs.Codecs.{Writable}
 use Rattle.lines.specs.Spelling.{spelled_fields, spelled, InRange}
 
-abbrev all_digits : List ℕ → Bool
+abbrev pub all_digits : List ℕ → Bool
 all_digits [] = true
 all_digits (d ∷ ds) = digit d && all_digits ds
 
@@ -19,27 +19,27 @@ own : IsNumeralModel (λ ds. all_digits ds ≡ true) (value_after 0)
 own = numerals_by_fold _ (search rules) value_after (search rules)
 
 -- what follows a number begins with no digit
-abbrev Stops : List ℕ → Type 0
+abbrev pub Stops : List ℕ → Type 0
 Stops bs = length (digits bs) ≡ 0
 
-digits_all : (bs : List ℕ) → all_digits (digits bs) ≡ true
+pub digits_all : (bs : List ℕ) → all_digits (digits bs) ≡ true
 digits_all [] = refl
 digits_all (b ∷ bs) = elim (cases_Bool (digit b)) [ inl e ↦ rw (e, e) (digits_all bs) | inr e ↦ rw e ]
 
-digits_front : (bs : List ℕ) → bs ≡ digits bs ++ drop (length (digits bs)) bs
+pub digits_front : (bs : List ℕ) → bs ≡ digits bs ++ drop (length (digits bs)) bs
 digits_front bs = sym (take-append-drop (length (digits bs)) bs) ∙ ap (λ xs. xs ++ drop (length (digits bs)) bs) (digits_in_front bs)
 
-digits_append : (ds bs : List ℕ) → all_digits ds ≡ true → Stops bs → digits (ds ++ bs) ≡ ds
+pub digits_append : (ds bs : List ℕ) → all_digits ds ≡ true → Stops bs → digits (ds ++ bs) ≡ ds
 digits_append [] bs all stops = nil_from_length (digits bs) stops
 digits_append (d ∷ ds) bs all stops = let p = and_parts (digit d) (all_digits ds) all in rw p.0 (ap (λ xs. d ∷ xs) (digits_append ds bs p.1 stops))
 
-plain_from : (ds : List ℕ) → 0 < length ds → (get_or ds 0 0 ≡ 48 → length ds ≡ 1) → plain ds ≡ true
+pub plain_from : (ds : List ℕ) → 0 < length ds → (get_or ds 0 0 ≡ 48 → length ds ≡ 1) → plain ds ≡ true
 plain_from ds some lead = elim (cases_eq (length ds) 1) [
   | inl one ↦ rw (eq-eqb (length ds) 1 one)
   | inr more ↦ rw (ne_eqb (length ds) 1 more, lt-ltb 1 (length ds) (omega arith), ne_eqb (get_or ds 0 0) 48 (λ e. more (lead e)))
 ]
 
-plain_tells : (ds : List ℕ) → plain ds ≡ true → (0 < length ds) × (get_or ds 0 0 ≡ 48 → length ds ≡ 1)
+pub plain_tells : (ds : List ℕ) → plain ds ≡ true → (0 < length ds) × (get_or ds 0 0 ≡ 48 → length ds ≡ 1)
 plain_tells ds p = elim (cases_eq (length ds) 1) [
   | inl one ↦ (omega arith, λ _. one)
   | inr more ↦ let q : (ltb 1 (length ds) ≡ true) × (not (eqb (get_or ds 0 0) 48) ≡ true) = and_parts _ _ (rw (ne_eqb (length ds) 1 more) at p) in (omega (arith, ltb-true 1 (length ds) q.0), λ e. absurd (eqb-false (get_or ds 0 0) 48 (not-true _ q.1) e))

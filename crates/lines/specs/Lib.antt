@@ -2,6 +2,7 @@ pub mod Fields
 pub mod Reading
 pub mod Spelling
 pub mod Families
+pub mod LineLaws
 pub mod Codecs
 pub mod TraceLines
 pub mod TraceCodec
