@@ -9,9 +9,7 @@ use crate::place::{part_of, refused_line};
 use crate::words::{layer_name, meaning};
 use jobs::fault::Numbered;
 use judge::fault::Refusal;
-use judge::refused::refusal;
-use judge::report::{LEAST_REPORT, judge};
-use judge::verdict::MOST_FILE;
+use judge::verdict::{MOST_FILE, verdict};
 use std::io::{Read, Write};
 use std::{env, io};
 
@@ -59,14 +57,14 @@ fn main(rt: HostRuntime) -> io::Result<()> {
     rt.stdin()
         .take(MOST_FILE as u64 + 1)
         .read_to_end(&mut file)?;
-    let mut report = [0u8; LEAST_REPORT];
-    let len = judge(&file, &mut report);
-    rt.stdout().write_all(report.get(..len).unwrap_or(&report))?;
-    if wants_report_only(&rt)? {
-        return Ok(());
-    }
-    match refusal(&file) {
-        None => Ok(()),
-        Some(refusal) => explain(&rt, &file, refusal),
+    match verdict(&file) {
+        Ok(report) => rt.stdout().write_all(report.as_bytes()),
+        Err(refusal) => {
+            rt.stdout().write_all(refusal.text().as_bytes())?;
+            if wants_report_only(&rt)? {
+                return Ok(());
+            }
+            explain(&rt, &file, refusal)
+        }
     }
 }

@@ -1,4 +1,5 @@
 pub mod HeadSteps
+pub mod SectionLaws
 pub mod HeadLaws
 pub mod ProgramsRead
 pub mod Texts

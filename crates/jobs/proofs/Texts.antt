@@ -3,17 +3,17 @@ use Rattle.std.proofs.Common.{◌≡◌, ℕ, zero, suc, ◌+◌, ◌*◌, ◌<�
 use Rattle.std.proofs.lemmas.List.{append-nil, take_all, take_more, take-append-le, length-take-le}
 use Rattle.std.proofs.lemmas.Bool.{cond-true, cond-false, lt-ltb, le-ltb, cases_lt}
 use Rattle.bounded.specs.Bounds.{push_within}
-use Rattle.jobs.specs.Texts.{added, texts}
+use Rattle.jobs.specs.Texts.{most_text, added, texts}
 
 -- one byte more, where there is room for it
-pub added_one : (t : List ℕ) (b : ℕ) → length t ≤ 2400 → push_within 2400 t b ≡ added t (b ∷ [])
-added_one t b few = elim (cases_lt (length t) 2400) [
-  | inl l ↦ cond-true _ _ _ (lt-ltb (length t) 2400 l) ∙ sym (take_all 2400 (t ++ b ∷ []) (let a = length-append t (b ∷ []) in omega arith))
-  | inr g ↦ cond-false _ _ _ (le-ltb (length t) 2400 g) ∙ sym (take-append-le 2400 t (b ∷ []) (omega arith) ∙ take_all 2400 t few)
+pub added_one : (t : List ℕ) (b : ℕ) → length t ≤ most_text → push_within most_text t b ≡ added t (b ∷ [])
+added_one t b few = elim (cases_lt (length t) most_text) [
+  | inl l ↦ cond-true _ _ _ (lt-ltb (length t) most_text l) ∙ sym (take_all most_text (t ++ b ∷ []) (let a = length-append t (b ∷ []) in omega arith))
+  | inr g ↦ cond-false _ _ _ (le-ltb (length t) most_text g) ∙ sym (take-append-le most_text t (b ∷ []) (omega arith) ∙ take_all most_text t few)
 ]
 
-pub added_none : (t : List ℕ) → length t ≤ 2400 → t ≡ added t []
-added_none t few = sym (ap (take 2400) (append-nil t) ∙ take_all 2400 t few)
+pub added_none : (t : List ℕ) → length t ≤ most_text → t ≡ added t []
+added_none t few = sym (ap (take most_text) (append-nil t) ∙ take_all most_text t few)
 
 -- the front of a text and another one is the front of the front and the other one
 front_of : {A : Type 0} (n : ℕ) (xs ys : List A) → take n (take n xs ++ ys) ≡ take n (xs ++ ys)
@@ -23,10 +23,10 @@ front_of (suc n) (x ∷ xs) ys = ap (λ l. x ∷ l) (front_of n xs ys)
 
 -- a text after a text
 pub added_two : (t a b : List ℕ) → added (added t a) b ≡ added t (a ++ b)
-added_two t a b = front_of 2400 (t ++ a) b ∙ ap (take 2400) (append_assoc t a b)
+added_two t a b = front_of most_text (t ++ a) b ∙ ap (take most_text) (append_assoc t a b)
 
-pub added_fits : (t a : List ℕ) → length t + length a ≤ 2400 → added t a ≡ t ++ a
-added_fits t a h = take_all 2400 (t ++ a) (omega (arith, length-append t a))
+pub added_fits : (t a : List ℕ) → length t + length a ≤ most_text → added t a ≡ t ++ a
+added_fits t a h = take_all most_text (t ++ a) (omega (arith, length-append t a))
 
 -- where what is left of a text was added, all of it was
 pub added_then : (t u v a b : List ℕ) → u ≡ added t a → v ≡ added u b → v ≡ added t (a ++ b)
@@ -51,7 +51,7 @@ module _ {A : Type 0} (text : ℕ → A → List ℕ) where
     pub is : now ≡ added t (texts text 0 (take i xs))
     pub short : length (texts text 0 (take i xs)) ≤ w * i
 
-  pub none_yet : (xs : List A) (w : ℕ) (t : List ℕ) → length t ≤ 2400 → Added xs w t 0 t
+  pub none_yet : (xs : List A) (w : ℕ) (t : List ℕ) → length t ≤ most_text → Added xs w t 0 t
   none_yet xs w t few = record { is = added_none t few; short = omega arith }
 
   module _ (xs : List A) (w : ℕ) (t : List ℕ) (i : ℕ) (now : List ℕ) (h : Added xs w t i now) where

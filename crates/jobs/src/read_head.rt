@@ -3,7 +3,7 @@ ghost use Rattle.std.specs.Prelude.{◌≡◌, ℕ, ◌+◌, ◌<◌, ◌≤◌,
 ghost use Rattle.jobs.specs.Sections.{lies, first_wrong};
 ghost use Rattle.jobs.specs.Heads.{sections_from, ReadsSections, heading, file_heading};
 ghost use Rattle.jobs.specs.Headings.{heading_of};
-ghost use Rattle.jobs.specs.HeadLaws.{HeadExact};
+ghost use Rattle.jobs.specs.HeadLaws.{HeadExact, RefusesHead};
 
 use crate::fault::{FileFault, Refusal};
 use crate::head::{Head, MOST_FILE};
@@ -94,14 +94,16 @@ fn head_of(file: &[u8]) -> Result<Head, Refusal<FileFault>>
 }
 
 impl Head {
+    /// Reads the head of a file, whatever the file's length.
     pub fn read(file: &[u8]) -> Result<Head, Refusal<FileFault>>
         ensures value { heading_of result ≡ heading file.now }
         ensures exact { HeadExact file.now (heading_of result) }
+        ensures refuses { RefusesHead file.now (heading_of result) }
     {
         head_of(file)
     }
 
-    // The head of a file that is not too long.
+    /// The head of a file that is not too long.
     pub fn of_file(file: &[u8]) -> Result<Head, Refusal<FileFault>>
         ensures { heading_of result ≡ file_heading file.now }
     {

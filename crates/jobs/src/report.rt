@@ -8,7 +8,7 @@ use crate::fault::{Numbered, Refusal};
 use crate::text::Text;
 
 impl<F: Numbered> Refusal<F> {
-    // NO with number, layer, section and line
+    /// NO with number, layer, section and line.
     pub fn text(self) -> Text
         ensures { result.bytes ≡ refused_text F.numbered F.layered self }
     {
@@ -27,8 +27,8 @@ impl<F: Numbered> Refusal<F> {
     }
 }
 
-// Writes the text on a file that is accepted, or its refusal, into the buffer, then zeros to its end,
-// and answers the report's length. A buffer under 2,400 bytes is not written, and the answer is 0.
+/// Writes the text on a file that is accepted, or its refusal, into the buffer, then zeros to its end,
+/// and answers the report's length. A buffer under the least length is not written, and the answer is 0.
 pub fn write_report<F: Numbered>(verdict: Result<Text, Refusal<F>>, report: &mut [u8]) -> usize
     ensures value { result ≡ answer (said F.numbered F.layered (told_by verdict)) (length report.old) }
     ensures after { report.new ≡ left (said F.numbered F.layered (told_by verdict)) report.old }

@@ -3,5 +3,7 @@ pub mod Lengths
 pub mod Ends
 pub mod Traced
 pub mod ProgramsHeld
+pub mod Judged
+pub mod Refused
 pub mod Reported
 pub mod VerdictSteps

@@ -4,7 +4,7 @@ use native.Mathlib.Nat.{min-le_right}
 use Rattle.std.proofs.lemmas.List.{length-take, length-drop, take-map, take-take}
 use Rattle.std.proofs.lemmas.Bool.{cond_both}
 use Rattle.lines.specs.declared.refusal.LineRefusal.{LineRefusal}
-use Rattle.lines.proofs.Options.{err_ok, ok_same}
+use Rattle.lines.proofs.Options.{err_ok, err_same, ok_same}
 use Rattle.lines.specs.declared.reader.LineFault.{LineFault}
 use Rattle.languages.specs.declared.read_program.Program.{Program}
 use Rattle.languages.specs.Behaviours.{Behaviour}
@@ -36,26 +36,26 @@ module _ (t : Tried Run) (judge : Run → Result Progress (LineRefusal Fault)) (
   pub not_made : (e : StepFault) → refused e ≡ t → Err (record { fault = Step e; section = 0; line = 1 }) ≡ told verdict
   not_made e is = ap (λ q. told (and_then (run_made q) (λ r. in_section (λ f. f) s (judge r)))) is
 
-  module _ (first run : Run) (is : went first ≡ t) where
-    pub trace_refused : (e : LineRefusal Fault) → Follows (judge first) (Err e) run → Err (record { fault = e.fault; section = s; line = e.line }) ≡ told verdict
+  module _ (first last run : Run) (is : went first ≡ t) where
+    pub trace_refused : (e : LineRefusal Fault) → Follows (judge first) last (Err e) run → Err (record { fault = e.fault; section = s; line = e.line }) ≡ told verdict
     trace_refused e h = go (judge first) h ∙ ap (λ q. told (and_then (run_made q) (λ r. in_section (λ f. f) s (judge r)))) is
       where
-        go : (o : Result Progress (LineRefusal Fault)) → Follows o (Err e) run → Err (record { fault = e.fault; section = s; line = e.line }) ≡ told (in_section (λ f. f) s o)
+        go : (o : Result Progress (LineRefusal Fault)) → Follows o last (Err e) run → Err (record { fault = e.fault; section = s; line = e.line }) ≡ told (in_section (λ f. f) s o)
         go (Ok p) h = absurd (err_ok h.0)
-        go (Err f) h = let same : e ≡ f = cc in ap (λ g. Err (record { fault = g.fault; section = s; line = g.line })) same
+        go (Err f) h = ap (λ g. Err (record { fault = g.fault; section = s; line = g.line })) (err_same h.0)
 
-    pub trace_accepted : (k : ℕ) → Follows (judge first) (Ok k) run → Ok (accepted_text (record { count = k; run = run })) ≡ told verdict
+    pub trace_accepted : (k : ℕ) → Follows (judge first) last (Ok k) run → Ok (accepted_text (record { count = k; run = run })) ≡ told verdict
     trace_accepted k h = go (judge first) h ∙ ap (λ q. told (and_then (run_made q) (λ r. in_section (λ f. f) s (judge r)))) is
       where
-        go : (o : Result Progress (LineRefusal Fault)) → Follows o (Ok k) run → Ok (accepted_text (record { count = k; run = run })) ≡ told (in_section (λ f. f) s o)
+        go : (o : Result Progress (LineRefusal Fault)) → Follows o last (Ok k) run → Ok (accepted_text (record { count = k; run = run })) ≡ told (in_section (λ f. f) s o)
         go (Ok p) h = λ i. Ok (accepted_text (record { count = ok_same h.0 i; run = h.1 i }))
-        go (Err f) h = absurd (err_ok (sym h))
+        go (Err f) h = absurd (err_ok (sym h.0))
 
 -- a trace that was accepted was followed to its end
-pub was_followed : (o : Result Progress (LineRefusal Fault)) (k : ℕ) (run : Run) → Follows (and_then o finished) (Ok k) run → (s : Progress) × (o ≡ Ok s) × (run ≡ s.run)
-was_followed (Err e) k run h = absurd (err_ok (sym h))
-was_followed (Ok s) k run h =
-    (s, refl, cond_both (is_between s.run.phase) (Ok s) (Err (record { fault = Unfinished; line = s.count })) (λ o. Follows o (Ok k) run → run ≡ s.run) (λ _ g. g.1) (λ _ g. absurd (err_ok (sym g))) h)
+pub was_followed : (o : Result Progress (LineRefusal Fault)) (k : ℕ) (last run : Run) → Follows (and_then o finished) last (Ok k) run → (s : Progress) × (o ≡ Ok s) × (run ≡ s.run)
+was_followed (Err e) k last run h = absurd (err_ok (sym h.0))
+was_followed (Ok s) k last run h =
+    (s, refl, cond_both (is_between s.run.phase) (Ok s) (Err (record { fault = Unfinished; line = s.count })) (λ o. Follows o last (Ok k) run → run ≡ s.run) (λ _ g. g.1) (λ _ g. absurd (err_ok (sym g.0))) h)
 
 pub cut_within : (file : List ℕ) (s : Section) → length (cut file s) ≤ length file
 cut_within file s =

@@ -5,7 +5,9 @@ use Rattle.stores.specs.declared.message.Message.{Message}
 use Rattle.stores.specs.declared.view.View.{View}
 use Rattle.stores.specs.Views.{at}
 use Rattle.rules.specs.Models.{Run}
-use Rattle.run.specs.Reports.{owing_thread}
+use Rattle.rules.specs.Threads.{owing_thread}
+pub use Rattle.rules.specs.Threads.{owner}
+pub use Rattle.jobs.specs.Texts.{least_report}
 use Rattle.jobs.specs.declared.fault.Refusal.{Refusal}
 use Rattle.jobs.specs.Reports.{said}
 use Rattle.jobs.specs.Texts.{texts, answer, left}
@@ -13,11 +15,6 @@ use Rattle.judge.specs.declared.fault.Fault.{Fault}
 use Rattle.judge.specs.Faults.{fault_number, fault_layer}
 use Rattle.judge.specs.Traces.{Progress}
 use Rattle.judge.specs.Verdicts.{judged}
-
--- 0, or the owing thread plus 1
-abbrev pub owner : Option ℕ → ℕ
-owner None = 0
-owner (Some i) = i + 1
 
 -- m x f t v w, with who owes the message
 abbrev pub message_line : Message → Option ℕ → List ℕ
@@ -44,7 +41,8 @@ prints_text r = texts (λ _ p. spelled 112 (p.0 ∷ p.1 ∷ [])) 0 r.log
 
 -- OK n, then the messages, the threads' views and the prints
 abbrev pub accepted_text : Progress → List ℕ
-accepted_text p = (79 ∷ spelled 75 (p.count ∷ [])) ++ (messages_text p.run ++ (views_text p.run ++ prints_text p.run))
+accepted_text p =
+    (79 ∷ spelled 75 (p.count ∷ [])) ++ (messages_text p.run ++ (views_text p.run ++ prints_text p.run))
 
 -- the report where the file is accepted, its refusal where not
 abbrev pub told : Result Progress (Refusal Fault) → Result (List ℕ) (Refusal Fault)
@@ -62,7 +60,7 @@ report_in capacity file = report_text (judged capacity file)
 abbrev pub report_on : List ℕ → List ℕ
 report_on file = report_in 64 file
 
--- what a call answers, by the length of its buffer: nothing where that is under 2,400
+-- what a call answers, by the length of its buffer: nothing where that is under the least
 abbrev pub answered : ℕ → List ℕ → ℕ → ℕ
 answered capacity file n = answer (report_in capacity file) n
 

@@ -5,7 +5,7 @@ use Rattle.lines.specs.declared.refusal.LineRefusal.{LineRefusal}
 use Rattle.lines.specs.declared.trace.Line as trace
 use Rattle.lines.specs.Families.{reads}
 use Rattle.lines.specs.TraceLines.{trace_lines}
-use Rattle.lines.specs.Walks.{walked}
+use Rattle.lines.specs.Walks.{walked, reached}
 use Rattle.rules.specs.Models.{Run}
 use Rattle.rules.specs.Rules.{Tried, went, refused, line_result}
 use Rattle.run.specs.Reports.{is_between}
@@ -40,6 +40,10 @@ one_line n l s bs = counted s.count (line_taken s.run (reads (trace_lines n l) b
 abbrev pub followed : ℕ → ℕ → Run → List ℕ → Result Progress (LineRefusal Fault)
 followed n l r bs = walked (one_line n l) (record { count = 0; run = r }) bs
 
+-- the run that the accepted lines led to, up to the first that is refused
+abbrev pub run_left : ℕ → ℕ → Run → List ℕ → Run
+run_left n l r bs = (reached (one_line n l) (record { count = 0; run = r }) bs).run
+
 -- a trace ends between turns
 abbrev pub finished : Progress → Result Progress (LineRefusal Fault)
 finished s = if is_between s.run.phase then Ok s else Err (record { fault = Unfinished; line = s.count })
@@ -47,11 +51,12 @@ finished s = if is_between s.run.phase then Ok s else Err (record { fault = Unfi
 abbrev pub trace_judged : ℕ → ℕ → Run → List ℕ → Result Progress (LineRefusal Fault)
 trace_judged n l r bs = and_then (followed n l r bs) finished
 
--- what the code answers, and the run that it leaves
-abbrev pub Took : Result (Run × List ℕ) Fault → Result (Unit {0}) Fault → Run → List ℕ → Type 0
-Took (Ok p) r run rest = (r ≡ Ok tt) × (run ≡ p.0) × (rest ≡ p.1)
-Took (Err f) r run rest = r ≡ Err f
+-- what the code answers, and the run that it leaves: where the line is refused, the one before it
+abbrev pub Took : Run → Result (Run × List ℕ) Fault → Result (Unit {0}) Fault → Run → Type 0
+Took before (Ok p) r run = (r ≡ Ok tt) × (run ≡ p.0)
+Took before (Err f) r run = (r ≡ Err f) × (run ≡ before)
 
-abbrev pub Follows : Result Progress (LineRefusal Fault) → Result ℕ (LineRefusal Fault) → Run → Type 0
-Follows (Ok s) r run = (r ≡ Ok s.count) × (run ≡ s.run)
-Follows (Err e) r run = r ≡ Err e
+-- the same of more lines: where one is refused, or the trace is, the run is the last that was reached
+abbrev pub Follows : Result Progress (LineRefusal Fault) → Run → Result ℕ (LineRefusal Fault) → Run → Type 0
+Follows (Ok s) last r run = (r ≡ Ok s.count) × (run ≡ s.run)
+Follows (Err e) last r run = (r ≡ Err e) × (run ≡ last)

@@ -9,16 +9,18 @@ use lines::layer::Layer;
 use lines::reader::LineFault;
 use rules::fault::StepFault;
 
+/// What is wrong with a file.
 #[derive(Clone, Copy, PartialEq, Eq, Debug)]
 pub enum Fault {
-    // the file is not of its form
+    /// The file is not of its form.
     File(FileFault),
-    // the run refused a line of the trace
+    /// The run refused a line of the trace.
     Step(StepFault),
-    // the trace ends in a turn or a showing
+    /// The trace ends in a turn or a showing.
     Unfinished,
 }
 
+/// Why a file is refused, and where.
 pub type Refusal = jobs::fault::Refusal<Fault>;
 
 impl From<FileFault> for Fault {

@@ -3,7 +3,6 @@
 
 mod account;
 pub mod fault;
-pub mod refused;
 pub mod report;
 mod start;
 mod trace;

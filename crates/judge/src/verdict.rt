@@ -1,6 +1,7 @@
 // What is found of a job file.
 ghost use Rattle.std.specs.Prelude.{◌≡◌, ℕ, ◌≤◌, map, length};
 ghost use Rattle.judge.specs.declared.fault.Fault.TheVariants.{Step as StepOf};
+ghost use Rattle.judge.specs.JobLaws.{Judges};
 ghost use Rattle.judge.specs.Layouts.{Addressed, JobsAddressed};
 ghost use Rattle.judge.specs.Verdicts.{with_trace, judged};
 ghost use Rattle.judge.specs.Reports.{told};
@@ -19,6 +20,7 @@ use languages::register_thread::RegisterThread;
 use languages::registers::RegisterLine;
 use languages::strip_thread::StripThread;
 use languages::strips::StripLine;
+use rowstore::rows::Rows;
 use rules::fault::StepFault;
 use run::state::Run;
 use stores::store::Store;
@@ -81,4 +83,13 @@ pub(crate) fn report_accepted<S: Store>(file: &[u8], store: S) -> Result<Text, R
             Err(refusal) => Err(refusal.widen()),
         },
     }
+}
+
+/// The report on a job file of any length, or why and where the file is refused: the first thing that is
+/// wrong with it. The file is judged on the row store.
+pub fn verdict(file: &[u8]) -> Result<Text, Refusal>
+    ensures value { told_by result ≡ told (judged 64 file.now) }
+    ensures law { Judges file.now (told_by result) }
+{
+    report_accepted(file, Rows::new())
 }

@@ -30,6 +30,20 @@ sound_good r h = go r.phase h
     go (turn i) s = s.1
     go (showing i s cl) t = t.good
 
+-- what holds of each line by which a thread acts
+pub by_acting : (F : Line → Type 0) → F N → ((t : ℕ) → F (R t)) → ((s : Span) → F (W s)) → ((s : Span) → F (U s)) → ((t : ℕ) → F (H t))
+    → {l : ℕ} {closing : Option View} {k k' : Lone} {S S' : View} {M M' : List Message} {line : Line} → Alone l closing k S M line k' S' M' → F line
+by_acting F n r w u h (silent e) = n
+by_acting F n r w u h (acquire_fence e) = n
+by_acting F n r w u h (release_fence e o) = n
+by_acting F n r w u h (both_fence e o) = n
+by_acting F n r w u h (sequential_fence e o) = n
+by_acting F n r w u h (print v e o) = n
+by_acting F n r w u h (read o m e i le τ) = r _
+by_acting F n r w u h (write x v o s e i less span free up) = w _
+by_acting F n r w u h (update o p m v t e i j le τ span free up) = u _
+by_acting F n r w u h (keep m before later e o less) = h _
+
 module _ (r : Run) (g : Good r) where
   -- an accepted line is a step
 
@@ -100,16 +114,7 @@ module _ (r : Run) (g : Good r) where
 
   act_line : {l : ℕ} {closing : Option View} {k k' : Lone} {S S' : View} {M M' : List Message} {line : Line} → Alone l closing k S M line k' S' M'
       → line_result line r ≡ act_in r line r.phase
-  act_line (silent e) = refl
-  act_line (acquire_fence e) = refl
-  act_line (release_fence e n) = refl
-  act_line (both_fence e n) = refl
-  act_line (sequential_fence e n) = refl
-  act_line (print v e n) = refl
-  act_line (read o m e i le τ) = refl
-  act_line (write x v o s e n less span free up) = refl
-  act_line (update o w m v t e n i le τ span free up) = refl
-  act_line (keep m before later e o less) = refl
+  act_line = by_acting (λ line. line_result line r ≡ act_in r line r.phase) refl (λ t. refl) (λ s. refl) (λ s. refl) (λ t. refl)
 
   is_owing : (i : ℕ) → (OwesNothing (lone_at r i) → ⊥) → none_owed (thread_at r i).owed ≡ false
   is_owing i h = elim (cases_Bool (none_owed (thread_at r i).owed)) [ inl e ↦ absurd (h (nothing (thread_at r i).owed r.memory e)) | inr e ↦ e ]

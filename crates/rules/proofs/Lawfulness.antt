@@ -16,16 +16,19 @@ use Rattle.rules.specs.Threads.{marked}
 use Rattle.rules.specs.Rules.{went, refused, initial, initials, new_run, made}
 use Rattle.rules.specs.Alone.{Within, done}
 use Rattle.rules.specs.Steps.{lone_at, Marks}
-use Rattle.rules.specs.Histories.{Event, no_turn, placed, history, played, messages, present, owes_after, undone_in, place_of}
-use Rattle.rules.specs.Laws.{WellFormed, Apart, Lawful, RunsAreLawful}
+use Rattle.rules.specs.Histories.{Event, no_turn, Move, Given, Did, messages, present, owes_after, undone_in, place_of}
+use Rattle.rules.specs.Laws.{WellFormed, Apart, Lawful, OneHistory, RunsAreLawful}
+use Rattle.rules.proofs.Refused.{refusals, acceptances}
 use Rattle.rules.proofs.Members.{in_push, apart_push}
 use Rattle.rules.proofs.Marked.{none_marked}
 use Rattle.rules.proofs.Accepts.{When, when_passed}
 use Rattle.rules.proofs.Preserved.{Fit, all_fit, known_zero}
 use Rattle.rules.proofs.Sound.{Good, Calm, Sound, SoundAt}
 use Rattle.rules.proofs.Agrees.{sound_good, agreement}
-use Rattle.rules.proofs.Past.{Past, past, played_sound, played_place}
-use Rattle.rules.proofs.Places.{played_inside}
+use Rattle.rules.proofs.Led.{given_sound, given_place, given_some, given_one, given_computed}
+use Rattle.rules.proofs.Past.{Past, past, did_one}
+use Rattle.rules.proofs.Places.{given_inside}
+use Rattle.rules.proofs.Backs.{puts_back}
 
 -- a run that was just made
 
@@ -86,21 +89,37 @@ module _ (bs : List Behaviour) (n l capacity : ℕ) (few : l ≤ 8) (room : l �
   zero_cur : (j x : ℕ) → 0 ≤ at (thread_at first j).views.cur x
   zero_cur j x = omega arith
 
-  new_lawful : (lines : List Line) → Lawful l (played (new_run bs n l capacity) lines) (placed no_turn (new_run bs n l capacity) lines) (history no_turn (new_run bs n l capacity) lines)
-  new_lawful lines =
-      let r = played first lines in
-      let es = history no_turn first lines in
-      let b = past no_turn first lines refl new_sound in
-      let s = played_sound first lines new_sound in
+  new_history : (lines : List Line) → OneHistory (new_run bs n l capacity) lines
+  new_history lines =
+      let m = given_some lines first new_sound in
+      let p = past m.2 no_turn refl new_sound in
+      record {
+        run = m.0;
+        moves = m.1;
+        events = p.0;
+        given = m.2;
+        did = p.1;
+        one_given = λ r ms g. given_one new_sound m.2 g;
+        one_did = λ es d. did_one d p.1;
+      }
+
+  new_lawful : (lines : List Line) (r : Run) (ms : List Move) (es : List Event) → Given (new_run bs n l capacity) lines ms r → Did no_turn ms es → Lawful l r ms es
+  new_lawful lines r ms es given did =
+      let p = past given no_turn refl new_sound in
+      let b = subst (Past first r) (did_one p.1 did) p.2 in
+      let s = given_sound given new_sound in
       let g = sound_good r s in
-      let place = played_place no_turn first lines refl in
-      let inside = played_inside first lines new_sound (initials_below l, λ p i. absurd i) in
+      let place = given_place given no_turn refl in
+      let inside = given_inside given new_sound (initials_below l, λ p i. absurd i) in
       record {
         locations = b.locations;
         agreement = agreement r g;
+        refusals = refusals r g.sane.apart g.marks;
+        acceptances = acceptances r g.sane.apart g.marks;
         phase = place;
         memory = b.memory;
         owed = λ i. b.owed i ∙ ap (λ (ms : List Message). owes_after i ms es) (owes_none i);
+        back = puts_back given new_sound refl;
         promises = λ e. kept r es s (place ∙ e) b;
         updates = b.distinct;
         times = λ i x. b.rising i x 0 (zero_cur i x);
@@ -128,14 +147,30 @@ module _ (bs : List Behaviour) (n l capacity : ℕ) (few : l ≤ 8) (room : l �
           c.0 i (λ z. z) M (λ m j. w m (subst (In m) memory j)) r.sc
 
 -- what making accepts
-made_is : (bs : List Behaviour) (n l capacity : ℕ) → When (λ r. (r ≡ new_run bs n l capacity) × (l ≤ 8) × (l ≤ capacity)) (made bs n l capacity)
-made_is bs n l capacity =
-    when_passed (λ r. (r ≡ new_run bs n l capacity) × (l ≤ 8) × (l ≤ capacity)) (in_scope n l) (cond (leb l capacity) (went (new_run bs n l capacity)) (refused (Store Full))) Range
-    (λ ok. when_passed (λ r. (r ≡ new_run bs n l capacity) × (l ≤ 8) × (l ≤ capacity)) (leb l capacity) (went (new_run bs n l capacity)) (Store Full)
-    (λ room. (refl, leb-true l 8 (and_parts _ _ (and_parts _ _ ok).1).1, leb-true l capacity room)))
+abbrev MadeIs : List Behaviour → ℕ → ℕ → ℕ → Run → Type 0
+MadeIs bs n l capacity r = (r ≡ new_run bs n l capacity) × (l ≤ 8) × (l ≤ capacity)
+
+made_is : (bs : List Behaviour) (n l capacity : ℕ) (r : Run) → made bs n l capacity ≡ went r → MadeIs bs n l capacity r
+made_is bs n l capacity r e =
+    subst (When (MadeIs bs n l capacity)) e
+    (when_passed (MadeIs bs n l capacity) (in_scope n l) (cond (leb l capacity) (went (new_run bs n l capacity)) (refused (Store Full))) Range
+    (λ ok. when_passed (MadeIs bs n l capacity) (leb l capacity) (went (new_run bs n l capacity)) (Store Full)
+    (λ room. (refl, leb-true l 8 (and_parts _ _ (and_parts _ _ ok).1).1, leb-true l capacity room))))
+
+pub made_sound : (bs : List Behaviour) (n l capacity : ℕ) → capacity ≤ 64 → (r : Run) → made bs n l capacity ≡ went r → Sound r
+made_sound bs n l capacity small r e = let h = made_is bs n l capacity r e in subst Sound (sym h.0) (new_sound bs n l capacity h.1 h.2 small)
+
+-- of every history of lines, and so of the one that they have
+pub lawful_after : (bs : List Behaviour) (n l capacity : ℕ) → capacity ≤ 64 → (first : Run) → made bs n l capacity ≡ went first
+    → (lines : List Line) (r : Run) (ms : List Move) (es : List Event) → Given first lines ms r → Did no_turn ms es → Lawful l r ms es
+lawful_after bs n l capacity small first e lines =
+    let h = made_is bs n l capacity first e in
+    subst (λ (q : Run). (r : Run) (ms : List Move) (es : List Event) → Given q lines ms r → Did no_turn ms es → Lawful l r ms es) (sym h.0)
+    (new_lawful bs n l capacity h.1 h.2 small lines)
 
 pub lawful : RunsAreLawful
-lawful bs n l capacity small r e lines =
-    let h = subst (When (λ q. (q ≡ new_run bs n l capacity) × (l ≤ 8) × (l ≤ capacity))) e (made_is bs n l capacity) in
-    subst (λ (q : Run). Lawful l (played q lines) (placed no_turn q lines) (history no_turn q lines)) (sym h.0)
-    (new_lawful bs n l capacity h.1 h.2 small lines)
+lawful bs n l capacity small first e lines =
+    let h = made_is bs n l capacity first e in
+    let one : OneHistory first lines = subst (λ (q : Run). OneHistory q lines) (sym h.0) (new_history bs n l capacity h.1 h.2 small lines) in
+    let computed = given_computed one.given (made_sound bs n l capacity small first e) in
+    (one, lawful_after bs n l capacity small first e lines one.run one.moves one.events one.given one.did, computed.0, sym computed.1)

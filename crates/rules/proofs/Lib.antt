@@ -6,6 +6,12 @@ pub mod Shifted
 pub mod Sound
 pub mod Complete
 pub mod Agrees
+pub mod Led
 pub mod Past
 pub mod Places
+pub mod Backs
+pub mod Chains
+pub mod Refused
 pub mod Lawfulness
+pub mod Played
+pub mod Examples

@@ -1,31 +1,33 @@
 -- What the history of a run says of it. Assumes nothing.
-use Rattle.std.proofs.Common.{◌≡◌, ℕ, ◌<◌, ◌≤◌, Bool, cond, ◌&&◌, eqb, ltb, ◌⊎◌, List, [], ◌∷◌, ◌++◌, length, get_or, Some, None, Option, sym, refl, ap, ◌∙◌, subst, inl, inr, append_assoc, append-nil, arith, length-set}
-use Rattle.std.proofs.lemmas.Bool.{and_parts, eqb-true, eq-eqb, ne_eqb, ltb-true, cond-true, cond-false, cond_both}
+use Rattle.std.proofs.Common.{◌≡◌, ℕ, ◌<◌, ◌≤◌, Bool, cond, ◌&&◌, eqb, ◌⊎◌, List, [], ◌∷◌, ◌++◌, length, get_or, Some, None, Option, sym, refl, ap, ◌∙◌, subst, inl, inr, append_assoc, append-nil, arith, length-set}
+use Rattle.std.proofs.lemmas.Bool.{and_parts, eqb-true, eq-eqb, ne_eqb, cond-true, cond-false, cond_both}
 use Rattle.lines.specs.declared.span.Span.{Span}
 use Rattle.lines.specs.declared.trace.Line.{Line}
-use Rattle.lines.specs.declared.trace.Line.TheVariants.{Turn as T, Next as N, Read as R, Write as W, Update as U, Promise as G, Keep as H, Show as X, EndTurn as E}
+use Rattle.lines.specs.declared.trace.Line.TheVariants.{Turn as T, Promise as G, Show as X, EndTurn as E}
+use Rattle.languages.specs.declared.action.Action.TheVariants.{Write}
 use Rattle.languages.specs.declared.action.ReadMode.{ReadMode}
 use Rattle.languages.specs.declared.action.ReadMode.TheVariants.{Relaxed as RelaxedRead, Acquire}
-use Rattle.languages.specs.declared.action.Taking.{Taking}
+use Rattle.languages.specs.declared.action.WriteMode.TheVariants.{Relaxed}
 use Rattle.stores.specs.declared.view.View.{View}
 use Rattle.stores.specs.declared.message.Message.{Message}
 use Rattle.stores.specs.Views.{at, single, join}
 use Rattle.stores.specs.StoreLaws.{In}
 use Rattle.stores.proofs.ViewLaws.{at_join, at_single}
-use Rattle.rules.specs.declared.fault.StepFault.TheVariants.{Range, Moment, StillOwing}
 use Rattle.rules.specs.Models.{Thread, Part, Phase, between, turn, showing, Run, nobody, thread_at, part_at, with_part, in_phase}
-use Rattle.rules.specs.Threads.{marked, none_owed, read_cur, write_views}
-use Rattle.rules.specs.Rules.{Tried, went, refused, written, updated_message, update_views, promised_message, promise_result, act_result, lifted, act_in, promise_in, begin_in, closing_line, saved, show_in, put_back, end_in, line_result}
+use Rattle.rules.specs.Threads.{marked, next_of, read_cur, write_views}
+use Rattle.rules.specs.Rules.{written, updated_message, update_views, with_message, promised_message, owing, closing_line, saved, put_back}
 use Rattle.rules.specs.Alone.{Lone, lone, onward, Alone, silent, acquire_fence, release_fence, both_fence, sequential_fence, print, read, write, update, keep}
-use Rattle.rules.specs.Steps.{lone_at}
-use Rattle.rules.specs.Histories.{Event, was_read, was_written, was_updated, was_promised, was_kept, read_event, write_event, replaced, update_of, update_event, keep_event, event, Place, shows_at, moves, moved, place_of, event_in, counted, settled, played, placed, history, messages, without, owes_after, if_this, times, updates, undone_in, undone}
+use Rattle.rules.specs.Steps.{lone_at, printed, Acting, in_turn, in_showing, Step, begins, acts, promises, shows, ends_turn, ends_showing}
+use Rattle.rules.specs.Histories.{Event, was_read, was_written, was_updated, was_promised, was_kept, Place, place_after, place_of, Move, Given, nothing_given, goes, stays}
+use Rattle.rules.specs.Histories.{Does, reading, writing, updating, promising, keeping, stepping, beginning, showing_it, ending, Did, nothing_done, in_no_turn, in_a_turn, in_a_showing}
+use Rattle.rules.specs.Histories.{messages, without, owes_after, if_this, times, updates, undone_in, undone}
 use Rattle.rules.specs.Laws.{IsIn, Distinct, RisingFrom, Apart}
 use Rattle.rules.proofs.Members.{in_left, in_last}
 use Rattle.rules.proofs.Marked.{marked_more, marked_promise, apart_marked, without_one}
-use Rattle.rules.proofs.Accepts.{When, when_passed, when_missed}
+use Rattle.rules.proofs.Accepts.{Acted}
 use Rattle.rules.proofs.Preserved.{write_within, reads_within, update_within}
-use Rattle.rules.proofs.Complete.{find_complete}
-use Rattle.rules.proofs.Sound.{Good, at_set, Changed, acted_changed, SoundAt, Sound, same_back, when_acted, Promised, when_promised, promised_changed, shown_back, line_sound}
+use Rattle.rules.proofs.Sound.{Good, at_set, Changed, acted_changed, SoundAt, Sound, same_back, Promised, promised_changed, shown_back}
+use Rattle.rules.proofs.Led.{step_sound, step_place}
 
 -- times that begin at or above lo, never fall, and end at or below hi
 abbrev Rises : ℕ → List ℕ → ℕ → Type 0
@@ -100,22 +102,23 @@ module _ (i : ℕ) (r : Run) (g : Good r) where
     one = tt;
   }
 
+  -- a step by itself did something, which tells this
   told : {closing : Option View} {line : Line} {k' : Lone} {S' : View} {M' : List Message} → Alone l closing lk r.sc M line k' S' M'
-      → (es : List Event) × (event i line r ≡ es) × Told i lk M k' M' es
-  told {k' = k'} (silent e) = ([], refl, quiet k' refl (λ x. omega arith))
-  told {k' = k'} (acquire_fence e) = ([], refl, quiet k' refl (g.fit i).ordered.acq)
-  told {k' = k'} (release_fence e n) = ([], refl, quiet k' refl (λ x. omega arith))
-  told {k' = k'} (both_fence e n) = ([], refl, quiet k' refl (g.fit i).ordered.acq)
-  told {k' = k'} (sequential_fence e n) =
-      ([], refl, quiet k' refl (λ x. let a = (g.fit i).ordered.acq x in let b = at_join r.sc k.views.acq x in omega arith))
-  told {k' = k'} (print v e n) = ([], refl, quiet k' refl (λ x. omega arith))
-  told {k' = k'} (read o m e h le τ) =
+      → (r' : Run) → r'.memory ≡ M' → (es : List Event) × Does i r r' line es × Told i lk M k' M' es
+  told {k' = k'} (silent e) r' q = ([], stepping, quiet k' refl (λ x. omega arith))
+  told {k' = k'} (acquire_fence e) r' q = ([], stepping, quiet k' refl (g.fit i).ordered.acq)
+  told {k' = k'} (release_fence e n) r' q = ([], stepping, quiet k' refl (λ x. omega arith))
+  told {k' = k'} (both_fence e n) r' q = ([], stepping, quiet k' refl (g.fit i).ordered.acq)
+  told {k' = k'} (sequential_fence e n) r' q =
+      ([], stepping, quiet k' refl (λ x. let a = (g.fit i).ordered.acq x in let b = at_join r.sc k.views.acq x in omega arith))
+  told {k' = k'} (print v e n) r' q = ([], stepping, quiet k' refl (λ x. omega arith))
+  told {k' = k'} (read o m e h le τ) r' q =
       let x = m.location in
       let t = m.span.to in
       let lt : x < l = reads_within l (k.does []).next x o e in
       let few = g.few in (
         was_read i x t ∷ [],
-        ap (read_event i t) e,
+        reading x t o e,
         record {
           memory = sym (append-nil M);
           owed = refl;
@@ -127,13 +130,13 @@ module _ (i : ℕ) (r : Run) (g : Good r) where
           one = tt;
         },
       )
-  told {k' = k'} (write x v o s e n less span free up) =
+  told {k' = k'} (write x v o s e n less span free up) r' q =
       let t = s.to in
       let m = written x v s (write_views o x t k.views) in
       let lt : x < l = write_within l (k.does []).next x v o e in
       let few = g.few in (
         was_written i m ∷ [],
-        ap (write_event i k s) e,
+        writing s m q,
         record {
           memory = refl;
           owed = refl;
@@ -145,20 +148,16 @@ module _ (i : ℕ) (r : Run) (g : Good r) where
           one = tt;
         },
       )
-  told {k' = k'} (update o w m v t e n h le τ span free up) =
+  told {k' = k'} (update o w m v t e n h le τ span free up) r' q =
       let x = m.location in
       let f = m.span.to in
       let s = onward m t in
-      let vs = update_views o w x s m.view k.views in
-      let m' = updated_message x v s m.view vs in
+      let m' = updated_message x v s m.view (update_views o w x s m.view k.views) in
       let lt : x < l = update_within l (k.does []).next x o w e in
       let few = g.few in
-      let c = read_cur o x f m.view k.views.cur in
-      let fc = find_complete M m g.sane.apart h in
-      let by-message : Message → List Event = λ q. was_updated i f (updated_message x (replaced ((k.does []).takes q.value)) s q.view (update_views o w x s q.view k.views)) ∷ [] in
-      let by-taking : Taking → List Event = λ a. was_updated i f (updated_message x (replaced a) s m.view vs) ∷ [] in (
+      let c = read_cur o x f m.view k.views.cur in (
         was_updated i f m' ∷ [],
-        ap (update_event i k s M) e ∙ ap (update_of i k x o w s M) fc.1 ∙ ap by-message fc.2 ∙ ap by-taking τ,
+        updating s m' q,
         record {
           memory = refl;
           owed = refl;
@@ -180,13 +179,13 @@ module _ (i : ℕ) (r : Run) (g : Good r) where
           let m' = updated_message m.location v (onward m t) m.view (update_views o w m.location (onward m t) m.view k.views) in
           ((λ b. let d = b.3 in let s = b.4 in free b.0 b.1 (b.2 ∙ qx, omega arith, omega arith)), (m', in_last m' M, sym qx, sym qf, span))
       once p (inr q) = absurd q
-  told {k' = k'} (keep m before later e o less) =
+  told {k' = k'} (keep m before later e o less) r' q =
       let x = m.location in
       let t = m.span.to in
       let lt : x < l = write_within l (k.does []).next x m.value _ e in
       let few = g.few in (
         was_kept i x t ∷ [],
-        ap (keep_event i t) e,
+        keeping x m.value t e,
         record {
           memory = sym (append-nil M);
           owed = sym (kept_own i (without x t lk.owed) lk.owed ∙ ap (without x t) o ∙ without_one m before later (subst Apart o (apart_marked k.owed M g.sane.apart)));
@@ -209,17 +208,21 @@ record Counted (r r' : Run) (es : List Event) : Type 0 where
   fresh : (p : ℕ × ℕ) → IsIn p (updates es) → (Taken (undone r).memory p → ⊥) × Taken (undone r').memory p
   one : Distinct (updates es)
 
--- a line after which what counts is as it was
-same_past : (r r' : Run) → length r'.threads ≡ length r.threads → r'.locations ≡ r.locations → (undone r').threads ≡ (undone r).threads → (undone r').memory ≡ (undone r).memory → Counted r r' []
-same_past r r' n el et em = record {
-  threads = n;
-  locations = el;
-  memory = em ∙ sym (append-nil (undone r).memory);
-  owed = λ j. ap (λ (ks : List Thread). marked (get_or ks j nobody).owed (undone r').memory) et ∙ ap (marked (thread_at (undone r) j).owed) em;
-  risen = λ j x. let e : at (get_or (undone r').threads j nobody).views.cur x ≡ at (get_or (undone r).threads j nobody).views.cur x = ap (λ (ks : List Thread). at (get_or ks j nobody).views.cur x) et in omega arith;
-  fresh = λ p h. absurd h;
-  one = tt;
-}
+-- a line after which what counts is as it was, the threads and the memory of q
+same_past : (r r' q : Run) → undone r ≡ q → length r'.threads ≡ length r.threads → r'.locations ≡ r.locations
+    → (undone r').threads ≡ q.threads → (undone r').memory ≡ q.memory → Counted r r' []
+same_past r r' q u n el same_threads same_memory =
+    let et = same_threads ∙ ap (λ (q : Run). q.threads) (sym u) in
+    let em = same_memory ∙ ap (λ (q : Run). q.memory) (sym u) in
+    record {
+      threads = n;
+      locations = el;
+      memory = em ∙ sym (append-nil (undone r).memory);
+      owed = λ j. ap (λ (ks : List Thread). marked (get_or ks j nobody).owed (undone r').memory) et ∙ ap (marked (thread_at (undone r) j).owed) em;
+      risen = λ j x. let e : at (get_or (undone r').threads j nobody).views.cur x ≡ at (get_or (undone r).threads j nobody).views.cur x = ap (λ (ks : List Thread). at (get_or ks j nobody).views.cur x) et in omega arith;
+      fresh = λ p h. absurd h;
+      one = tt;
+    }
 
 -- a counted line of thread i
 part_past : (r : Run) (i : ℕ) (p : Part) (es : List Event) → r.phase ≡ turn i → i < length r.threads → Good r → Changed r i p
@@ -271,133 +274,84 @@ promise_told r i x v s p g a =
       one = tt;
     })
 
-act_counted : (line : Line) (r : Run) (ph : Phase) → r.phase ≡ ph → SoundAt r ph → When (λ r'. Counted r r' (event_in (place_of ph) line r)) (act_in r line ph)
-act_counted line r between e h = tt
-act_counted line r (turn i) e h =
-    when_acted r i None line (λ r'. Counted r r' (event i line r)) h.1
-    (λ p a. let t = told i r h.1 a.step in
-    subst (Counted r (with_part r i p)) (sym t.1) (part_past r i p t.0 e h.0 h.1 (acted_changed r i None line p h.1 a) t.2))
-act_counted line r (showing i s cl) e h =
-    when_missed (λ r'. Counted r r' []) (none_owed (thread_at r i).owed) (lifted r i (act_result r.locations i (Some cl) line (part_at r i))) Moment
-    (λ _. when_acted r i (Some cl) line (λ r'. Counted r r' []) h.good
-    (λ p a.
-    let c = acted_changed r i (Some cl) line p h.good a in
-    let back : undone (with_part r i p) ≡ undone r = ap (undone_in (with_part r i p)) e ∙ same_back r i p s h.messages h.prints c ∙ sym (ap (undone_in r) e) in
-    same_past r (with_part r i p) (length-set r.threads i p.thread) refl (ap (λ (q : Run). q.threads) back) (ap (λ (q : Run). q.memory) back)))
+-- what a line did stands before what those after it did
+abbrev Adds : Place → Move → List Event → Type 0
+Adds a m es = (ms : List Move) (fs : List Event) → Did (place_after a m.line) ms fs → Did a (m ∷ ms) (es ++ fs)
 
-begin_counted : (r : Run) (i : ℕ) (ph : Phase) → r.phase ≡ ph → When (λ r'. Counted r r' (event_in (place_of ph) (T i) r)) (begin_in r i ph)
-begin_counted r i between e =
-    let now : undone r ≡ r = ap (undone_in r) e in
-    same_past r (in_phase r (turn i)) refl refl (ap (λ (q : Run). q.threads) (sym now)) (ap (λ (q : Run). q.memory) (sym now))
-begin_counted r i (turn j) e = tt
-begin_counted r i (showing j s cl) e = tt
+-- what a step did, and what that says
+abbrev Added : Run → Line → Run → Type 0
+Added r line r' = (es : List Event) × Adds (place_of r.phase) (record { before = r; line = line; after = r' }) es × Counted r r' es
 
-promise_counted : (r : Run) (x v : ℕ) (s : Span) (ph : Phase) → x < r.locations → r.phase ≡ ph → SoundAt r ph → When (λ r'. Counted r r' (event_in (place_of ph) (G x v s) r)) (promise_in r x v s ph)
-promise_counted r x v s between here e h = tt
-promise_counted r x v s (turn i) here e h =
-    when_promised r i x v s (λ r'. Counted r r' (event i (G x v s) r))
-    (λ p a. part_past r i p (was_promised i (promised_message (thread_at r i).views x v s) ∷ []) e h.0 h.1 (promised_changed r i x v s p here h.1 a) (promise_told r i x v s p h.1 a))
-promise_counted r x v s (showing i sv cl) here e h = tt
+added : (r r' : Run) (line : Line) (ph : Phase) (es : List Event) → r.phase ≡ ph
+    → Adds (place_of ph) (record { before = r; line = line; after = r' }) es → Counted r r' es → Added r line r'
+added r r' line ph es e d c = (es, subst (λ (q : Phase). Adds (place_of q) (record { before = r; line = line; after = r' }) es) (sym e) d, c)
 
-show_counted : (r : Run) (ph : Phase) → r.phase ≡ ph → When (λ r'. Counted r r' (event_in (place_of ph) X r)) (show_in r ph)
-show_counted r between e = tt
-show_counted r (turn i) e =
-    let cl = closing_line r.memory in
-    let ph = showing i (saved r i) cl in
-    let now : undone r ≡ r = ap (undone_in r) e in
+act_added : {r : Run} {i : ℕ} {closing : Option View} {line : Line} (p : Part) → Acting r i closing → Acted r.locations i closing line (part_at r i) p → Sound r
+    → Added r line (with_part r i p)
+act_added {r = r} {line = line} p (in_turn i e) a sound =
+    let s = subst (SoundAt r) e sound in
+    let t = told i r s.1 a.step (with_part r i p) refl in
+    added r (with_part r i p) line (turn i) t.0 e (λ ms fs d. in_a_turn t.1 d) (part_past r i p t.0 e s.0 s.1 (acted_changed r i None line p s.1 a) t.2)
+act_added {r = r} {line = line} p (in_showing i b cl e n) a sound =
+    let s = subst (SoundAt r) e sound in
+    let c = acted_changed r i (Some cl) line p s.good a in
+    let back : undone (with_part r i p) ≡ put_back r i b = ap (undone_in (with_part r i p)) e ∙ same_back r i p b s.messages s.prints c in
+    added r (with_part r i p) line (showing i b cl) [] e (λ ms fs d. in_a_showing d)
+    (same_past r (with_part r i p) (put_back r i b) (ap (undone_in r) e) (length-set r.threads i p.thread) refl (ap (λ (q : Run). q.threads) back) (ap (λ (q : Run). q.memory) back))
+
+step_added : {r : Run} {line : Line} {r' : Run} → Step r line r' → Sound r → Added r line r'
+step_added {r = r} (begins i lt e) sound =
+    added r (in_phase r (turn i)) (T i) between [] e (λ ms fs d. in_no_turn d) (same_past r (in_phase r (turn i)) r (ap (undone_in r) e) refl refl refl refl)
+step_added {r = r} (acts {line = line} i closing k S M act s marks room prints) sound =
+    act_added (record { thread = k; memory = M; capacity = r.capacity; sc = S; log = r.log ++ printed i (next_of r.locations (thread_at r i).does) }) act
+    (record { step = s; marks = marks; capacity = refl; room = room; log = refl; prints = prints }) sound
+step_added {r = r} (promises i x v s e lt less span free room) sound =
+    let h = subst (SoundAt r) e sound in
+    let m = promised_message (thread_at r i).views x v s in
+    let p = with_message (part_at r i) (owing (thread_at r i) (length r.memory)) m in
+    let a : Promised r i x v s p = record { is = refl; new = less; span = span; free = free; room = room } in
+    added r (with_part r i p) (G x v s) (turn i) (was_promised i m ∷ []) e (λ ms fs d. in_a_turn (promising x v s m refl) d)
+    (part_past r i p (was_promised i m ∷ []) e h.0 h.1 (promised_changed r i x v s p lt h.1 a) (promise_told r i x v s p h.1 a))
+step_added {r = r} (shows i e n) sound =
+    let ph = showing i (saved r i) (closing_line r.memory) in
     let back = shown_back r i ph in
-    when_missed (λ r'. Counted r r' []) (none_owed (thread_at r i).owed) (went (in_phase r ph)) Moment
-    (λ _. same_past r (in_phase r ph) refl refl (ap (λ (q : Run). q.threads) back ∙ ap (λ (q : Run). q.threads) (sym now)) (ap (λ (q : Run). q.memory) back ∙ ap (λ (q : Run). q.memory) (sym now)))
-show_counted r (showing i s cl) e = tt
+    added r (in_phase r ph) X (turn i) [] e (λ ms fs d. in_a_turn showing_it d)
+    (same_past r (in_phase r ph) r (ap (undone_in r) e) refl refl (ap (λ (q : Run). q.threads) back) (ap (λ (q : Run). q.memory) back))
+step_added {r = r} (ends_turn i e n) sound =
+    added r (in_phase r between) E (turn i) [] e (λ ms fs d. in_a_turn ending d) (same_past r (in_phase r between) r (ap (undone_in r) e) refl refl refl refl)
+step_added {r = r} (ends_showing i s cl e n) sound =
+    added r (in_phase (put_back r i s) between) E (showing i s cl) [] e (λ ms fs d. in_a_showing d)
+    (same_past r (in_phase (put_back r i s) between) (put_back r i s) (ap (undone_in r) e) (length-set r.threads i s.thread) refl refl refl)
 
-end_counted : (r : Run) (ph : Phase) → r.phase ≡ ph → When (λ r'. Counted r r' (event_in (place_of ph) E r)) (end_in r ph)
-end_counted r between e = tt
-end_counted r (turn i) e =
-    let now : undone r ≡ r = ap (undone_in r) e in
-    when_passed (λ r'. Counted r r' []) (none_owed (thread_at r i).owed) (went (in_phase r between)) StillOwing
-    (λ _. same_past r (in_phase r between) refl refl (ap (λ (q : Run). q.threads) (sym now)) (ap (λ (q : Run). q.memory) (sym now)))
-end_counted r (showing i s cl) e =
-    let now : undone r ≡ put_back r i s = ap (undone_in r) e in
-    when_passed (λ r'. Counted r r' []) (none_owed (thread_at r i).owed) (went (in_phase (put_back r i s) between)) StillOwing
-    (λ _. same_past r (in_phase (put_back r i s) between) (length-set r.threads i s.thread) refl (ap (λ (q : Run). q.threads) (sym now)) (ap (λ (q : Run). q.memory) (sym now)))
+-- accepted lines did one thing
 
-line_counted : (line : Line) (r : Run) → Sound r → When (λ r'. Counted r r' (event_in (place_of r.phase) line r)) (line_result line r)
-line_counted (T i) r h =
-    when_passed (λ r'. Counted r r' (event_in (place_of r.phase) (T i) r)) (ltb i (length r.threads)) (begin_in r i r.phase) Range
-    (λ _. begin_counted r i r.phase refl)
-line_counted N r h = act_counted N r r.phase refl h
-line_counted (R t) r h = act_counted (R t) r r.phase refl h
-line_counted (W s) r h = act_counted (W s) r r.phase refl h
-line_counted (U s) r h = act_counted (U s) r r.phase refl h
-line_counted (G x v s) r h =
-    when_passed (λ r'. Counted r r' (event_in (place_of r.phase) (G x v s) r)) (ltb x r.locations) (promise_in r x v s r.phase) Range
-    (λ lt. promise_counted r x v s r.phase (ltb-true x r.locations lt) refl h)
-line_counted (H t) r h = act_counted (H t) r r.phase refl h
-line_counted X r h = show_counted r r.phase refl
-line_counted E r h = end_counted r r.phase refl
+last_same : (xs : List Message) (x y : Message) → xs ++ (x ∷ []) ≡ xs ++ (y ∷ []) → x ≡ y
+last_same [] x y e = cc
+last_same (z ∷ xs) x y e = last_same xs x y (cc)
 
-settled_counted : (a : Place) (line : Line) (r : Run) (t : Tried Run) → place_of r.phase ≡ a → When (λ r'. Counted r r' (event_in (place_of r.phase) line r)) t
-    → Counted r (settled r t) (counted a line r t)
-settled_counted a line r (went r') e h = subst (λ (b : Place). Counted r r' (event_in b line r)) e h
-settled_counted a line r (refused f) e h = same_past r r refl refl refl refl
+brought_same : (r r' : Run) (m n : Message) → r'.memory ≡ r.memory ++ (m ∷ []) → r'.memory ≡ r.memory ++ (n ∷ []) → m ≡ n
+brought_same r r' m n e f = last_same r.memory m n (sym e ∙ f)
 
--- the phase follows the accepted lines
-abbrev Led : Run → Line → Run → Type 0
-Led r line r' = place_of r'.phase ≡ moves (place_of r.phase) line
+does_one : {i : ℕ} {r r' : Run} {line : Line} {es fs : List Event} → Does i r r' line es → Does i r r' line fs → es ≡ fs
+does_one {i = i} (reading x t o e) (reading y _ p f) = ap (λ z. was_read i z t ∷ []) (same_place (sym e ∙ f))
+  where
+    same_place : ◌≡◌ {A = Option (ℕ × ReadMode)} (Some (x, o)) (Some (y, p)) → x ≡ y
+    same_place e = let q : ◌≡◌ {A = ℕ × ReadMode} (x, o) (y, p) = cc in ap (λ q. q.0) q
+does_one {i = i} {r = r} {r' = r'} (writing s m e) (writing _ n f) = ap (λ q. was_written i q ∷ []) (brought_same r r' m n e f)
+does_one {i = i} {r = r} {r' = r'} (updating s m e) (updating _ n f) = ap (λ q. was_updated i s.from q ∷ []) (brought_same r r' m n e f)
+does_one {i = i} {r = r} {r' = r'} (promising x v s m e) (promising _ _ _ n f) = ap (λ q. was_promised i q ∷ []) (brought_same r r' m n e f)
+does_one {i = i} (keeping x v t e) (keeping y w _ f) =
+    let p : Write x v Relaxed ≡ Write y w Relaxed = sym e ∙ f in let q : x ≡ y = cc in ap (λ z. was_kept i z t ∷ []) q
+does_one stepping stepping = refl
+does_one (beginning j) (beginning _) = refl
+does_one showing_it showing_it = refl
+does_one ending ending = refl
 
-lifted_place : (r : Run) (i : ℕ) (a : Place) (t : Tried Part) → place_of r.phase ≡ a → When (λ r'. place_of r'.phase ≡ a) (lifted r i t)
-lifted_place r i a (went p) h = h
-lifted_place r i a (refused e) h = tt
-
-act_place : (line : Line) (r : Run) (ph : Phase) → When (λ r'. place_of r'.phase ≡ place_of r.phase) (act_in r line ph)
-act_place line r between = tt
-act_place line r (turn i) = lifted_place r i (place_of r.phase) (act_result r.locations i None line (part_at r i)) refl
-act_place line r (showing i s cl) =
-    when_missed (λ r'. place_of r'.phase ≡ place_of r.phase) (none_owed (thread_at r i).owed) (lifted r i (act_result r.locations i (Some cl) line (part_at r i))) Moment
-    (λ _. lifted_place r i (place_of r.phase) (act_result r.locations i (Some cl) line (part_at r i)) refl)
-
-begin_place : (r : Run) (i : ℕ) (ph : Phase) → When (Led r (T i)) (begin_in r i ph)
-begin_place r i between = refl
-begin_place r i (turn j) = tt
-begin_place r i (showing j s cl) = tt
-
-promise_place : (r : Run) (x v : ℕ) (s : Span) (ph : Phase) → When (Led r (G x v s)) (promise_in r x v s ph)
-promise_place r x v s between = tt
-promise_place r x v s (turn i) = lifted_place r i (place_of r.phase) (promise_result x v s (part_at r i)) refl
-promise_place r x v s (showing i sv cl) = tt
-
-show_place : (r : Run) (ph : Phase) → r.phase ≡ ph → When (Led r X) (show_in r ph)
-show_place r between e = tt
-show_place r (turn i) e =
-    when_missed (Led r X) (none_owed (thread_at r i).owed) (went (in_phase r (showing i (saved r i) (closing_line r.memory)))) Moment
-    (λ _. sym (ap (λ (ph : Phase). shows_at (place_of ph)) e))
-show_place r (showing i s cl) e = tt
-
-end_place : (r : Run) (ph : Phase) → When (Led r E) (end_in r ph)
-end_place r between = tt
-end_place r (turn i) = when_passed (Led r E) (none_owed (thread_at r i).owed) (went (in_phase r between)) StillOwing (λ _. refl)
-end_place r (showing i s cl) =
-    when_passed (Led r E) (none_owed (thread_at r i).owed) (went (in_phase (put_back r i s) between)) StillOwing (λ _. refl)
-
-line_place : (line : Line) (r : Run) → When (Led r line) (line_result line r)
-line_place (T i) r = when_passed (Led r (T i)) (ltb i (length r.threads)) (begin_in r i r.phase) Range (λ _. begin_place r i r.phase)
-line_place N r = act_place N r r.phase
-line_place (R t) r = act_place (R t) r r.phase
-line_place (W s) r = act_place (W s) r r.phase
-line_place (U s) r = act_place (U s) r r.phase
-line_place (G x v s) r =
-    when_passed (Led r (G x v s)) (ltb x r.locations) (promise_in r x v s r.phase) Range (λ _. promise_place r x v s r.phase)
-line_place (H t) r = act_place (H t) r r.phase
-line_place X r = show_place r r.phase refl
-line_place E r = end_place r r.phase
-
-settled_place : (a : Place) (line : Line) (r : Run) (t : Tried Run) → place_of r.phase ≡ a → When (Led r line) t → place_of (settled r t).phase ≡ moved a line t
-settled_place a line r (went r') e h = h ∙ ap (λ (b : Place). moves b line) e
-settled_place a line r (refused f) e h = e
-
-pub settled_sound : (r : Run) (t : Tried Run) → When Sound t → Sound r → Sound (settled r t)
-settled_sound r (went r') h s = h
-settled_sound r (refused e) h s = s
+pub did_one : {a : Place} {ms : List Move} {es fs : List Event} → Did a ms es → Did a ms fs → es ≡ fs
+did_one nothing_done nothing_done = refl
+did_one (in_no_turn d) (in_no_turn b) = did_one d b
+did_one (in_a_turn d ds) (in_a_turn b bs) = let e = does_one d b in let f = did_one ds bs in λ j. e j ++ f j
+did_one (in_a_showing d) (in_a_showing b) = did_one d b
 
 -- events one after another
 messages_append : (es fs : List Event) → messages (es ++ fs) ≡ messages es ++ messages fs
@@ -486,28 +440,24 @@ past_on r r₁ r₂ es fs c b = record {
     lower t lo hi [] le h = omega arith
     lower t lo hi (u ∷ ts) le h = (omega (arith, h.0), h.1)
 
-pub past : (a : Place) (r : Run) (lines : List Line) → place_of r.phase ≡ a → Sound r → Past r (played r lines) (history a r lines)
-past a r [] e h = record {
-  threads = refl;
-  locations = refl;
-  memory = sym (append-nil (undone r).memory);
-  owed = λ j. refl;
-  rising = λ j x t le. tt;
-  fresh = λ p i. absurd i;
-  distinct = tt;
-}
-past a r (line ∷ lines) e h =
-    let t = line_result line r in
-    let r₁ = settled r t in
-    past_on r r₁ (played r₁ lines) (counted a line r t) (history (moved a line t) r₁ lines) (settled_counted a line r t e (line_counted line r h))
-    (past (moved a line t) r₁ lines (settled_place a line r t e (line_place line r)) (settled_sound r t (line_sound line r h) h))
-
-pub played_sound : (r : Run) (lines : List Line) → Sound r → Sound (played r lines)
-played_sound r [] h = h
-played_sound r (line ∷ lines) h = played_sound (settled r (line_result line r)) lines (settled_sound r (line_result line r) (line_sound line r h) h)
-
-pub played_place : (a : Place) (r : Run) (lines : List Line) → place_of r.phase ≡ a → place_of (played r lines).phase ≡ placed a r lines
-played_place a r [] e = e
-played_place a r (line ∷ lines) e =
-    let t = line_result line r in
-    played_place (moved a line t) (settled r t) lines (settled_place a line r t e (line_place line r))
+-- what accepted lines did, and what that says
+pub past : {first : Run} {lines : List Line} {ms : List Move} {r : Run} → Given first lines ms r → (a : Place) → place_of first.phase ≡ a → Sound first
+    → (es : List Event) × Did a ms es × Past first r es
+past (nothing_given {r = r}) a e s = (
+  [],
+  nothing_done,
+  record {
+    threads = refl;
+    locations = refl;
+    memory = sym (append-nil (undone r).memory);
+    owed = λ j. refl;
+    rising = λ j x t le. tt;
+    fresh = λ p i. absurd i;
+    distinct = tt;
+  },
+)
+past (goes {r = r} {r₁ = r₁} {r₂ = r₂} {line = line} {ms = ms} st g) a e s =
+    let c = step_added st s in
+    let b = past g (place_after (place_of r.phase) line) (step_place st) (step_sound st s) in
+    (c.0 ++ b.0, subst (λ (p : Place). Did p (record { before = r; line = line; after = r₁ } ∷ ms) (c.0 ++ b.0)) e (c.1 ms b.0 b.1), past_on r r₁ r₂ c.0 b.0 c.2 b.2)
+past (stays never g) a e s = past g a e s

@@ -8,17 +8,15 @@ use Rattle.stores.specs.declared.message.Message.{Message}
 use Rattle.stores.specs.StoreLaws.{In}
 use Rattle.rules.specs.Models.{Thread, Run, thread_at}
 use Rattle.rules.specs.Threads.{next_of, write_views, written, update_views, updated_message, promised_message}
-use Rattle.rules.specs.Rules.{Tried, went, refused, line_result}
 use Rattle.rules.specs.Alone.{Lone, onward, Alone, silent, acquire_fence, release_fence, both_fence, sequential_fence, print, read, write, update, keep}
 use Rattle.rules.specs.Steps.{printed, Acting, in_turn, in_showing, Step, begins, acts, promises, shows, ends_turn, ends_showing}
-use Rattle.rules.specs.Histories.{settled, played}
+use Rattle.rules.specs.Histories.{Move, Given, nothing_given, goes, stays}
 use Rattle.rules.specs.Laws.{IsIn}
 use Rattle.rules.proofs.Members.{in_take, in_push}
-use Rattle.rules.proofs.Accepts.{When}
 use Rattle.rules.proofs.Preserved.{write_within, update_within}
-use Rattle.rules.proofs.Sound.{Sound, SoundAt, line_sound}
-use Rattle.rules.proofs.Agrees.{sound_good, line_steps}
-use Rattle.rules.proofs.Past.{is_in_split, settled_sound}
+use Rattle.rules.proofs.Sound.{Sound, SoundAt}
+use Rattle.rules.proofs.Led.{step_sound}
+use Rattle.rules.proofs.Past.{is_in_split}
 
 -- each message is at one of l locations
 abbrev Places : ℕ → List Message → Type 0
@@ -98,12 +96,7 @@ module _ (r : Run) (s : Sound r) (h : Inside r) where
     as_many i b.thread (take b.prints r.log) (λ p j. h.1 p (is_in_take b.prints p r.log j)),
   )
 
-  settled_inside : (line : Line) (t : Tried Run) → When (Step r line) t → Inside (settled r t)
-  settled_inside line (went r') st = step_inside st
-  settled_inside line (refused e) st = h
-
-pub played_inside : (r : Run) (lines : List Line) → Sound r → Inside r → Inside (played r lines)
-played_inside r [] s h = h
-played_inside r (line ∷ lines) s h =
-    let t = line_result line r in
-    played_inside (settled r t) lines (settled_sound r t (line_sound line r s) s) (settled_inside r s h line t (line_steps r (sound_good r s) line))
+pub given_inside : {first : Run} {lines : List Line} {ms : List Move} {r : Run} → Given first lines ms r → Sound first → Inside first → Inside r
+given_inside nothing_given s h = h
+given_inside (goes {r = r} st g) s h = given_inside g (step_sound st s) (step_inside r s h st)
+given_inside (stays never g) s h = given_inside g s h

@@ -1,19 +1,18 @@
 -- The history of a run: what its accepted lines outside showings did.
-use Rattle.std.specs.Prelude.{ℕ, if◌then◌else◌, ◌&&◌, List, [], ◌∷◌, ◌++◌, Some, None, Option, ◌==◌}
+use Rattle.std.specs.Prelude.{◌≡◌, ℕ, if◌then◌else◌, ◌&&◌, List, [], ◌∷◌, ◌++◌, Some, None, Option, ◌==◌}
 use Rattle.lines.specs.declared.span.Span.{Span}
 use Rattle.lines.specs.declared.trace.Line.{Line}
-use Rattle.lines.specs.declared.trace.Line.TheVariants.{Turn as T, Next as N, Read as R, Write as W, Update as U, Promise as G, Keep as H, Show as X, EndTurn as E}
-use Rattle.languages.specs.declared.action.Action.{Action}
-use Rattle.languages.specs.declared.action.Action.TheVariants.{Silent, Read, Write, Update, Fence, Print, Ended}
+use Rattle.lines.specs.declared.trace.Line.TheVariants.{Turn as T, Next as N, Read as R, Write as W}
+use Rattle.lines.specs.declared.trace.Line.TheVariants.{Update as U, Promise as G, Keep as H, Show as X}
+use Rattle.lines.specs.declared.trace.Line.TheVariants.{EndTurn as E}
+use Rattle.languages.specs.declared.action.Action.TheVariants.{Write}
 use Rattle.languages.specs.declared.action.ReadMode.{ReadMode}
-use Rattle.languages.specs.declared.action.WriteMode.{WriteMode}
-use Rattle.languages.specs.declared.action.Taking.{Taking}
-use Rattle.languages.specs.declared.action.Taking.TheVariants.{NotTaken, OnlyRead, Replaced}
+use Rattle.languages.specs.declared.action.WriteMode.TheVariants.{Relaxed}
 use Rattle.stores.specs.declared.message.Message.{Message}
-use Rattle.stores.specs.Memory.{ends_at, find}
-use Rattle.rules.specs.Models.{Thread, Phase, between, turn, showing, Run, thread_at}
-use Rattle.rules.specs.Threads.{next_of, reads, write_views}
-use Rattle.rules.specs.Rules.{Tried, went, refused, message_at, written, updated_message, update_views, promised_message, put_back, line_result, initials}
+use Rattle.stores.specs.Memory.{ends_at}
+use Rattle.rules.specs.Models.{Phase, between, turn, showing, Run, initials, put_back}
+use Rattle.rules.specs.Threads.{reads}
+use Rattle.rules.specs.Steps.{next_action, Step}
 
 -- what a line of a thread did
 pub data Event : Type 0 where
@@ -27,64 +26,7 @@ pub data Event : Type 0 where
   -- the thread, the location and the end
   was_kept : ℕ → ℕ → ℕ → Event
 
-abbrev pub read_event : ℕ → ℕ → Option (ℕ × ReadMode) → List Event
-read_event i t None = []
-read_event i t (Some xo) = was_read i xo.0 t ∷ []
-
-abbrev pub write_event : ℕ → Thread → Span → Action → List Event
-write_event i k s Silent = []
-write_event i k s (Read x o) = []
-write_event i k s (Write x v o) = was_written i (written x v s (write_views o x s.to k.views)) ∷ []
-write_event i k s (Update x o w) = []
-write_event i k s (Fence o) = []
-write_event i k s (Print v) = []
-write_event i k s Ended = []
-
--- the value that is written in place of the one read
-abbrev pub replaced : Taking → ℕ
-replaced NotTaken = 0
-replaced OnlyRead = 0
-replaced (Replaced v) = v
-
-abbrev pub update_of : ℕ → Thread → ℕ → ReadMode → WriteMode → Span → List Message → Option ℕ → List Event
-update_of i k x o w s ms None = []
-update_of i k x o w s ms (Some j) =
-    was_updated i s.from
-    (updated_message x (replaced ((k.does []).takes (message_at ms j).value)) s (message_at ms j).view
-    (update_views o w x s (message_at ms j).view k.views))
-    ∷ []
-
-abbrev pub update_event : ℕ → Thread → Span → List Message → Action → List Event
-update_event i k s ms Silent = []
-update_event i k s ms (Read x o) = []
-update_event i k s ms (Write x v o) = []
-update_event i k s ms (Update x o w) = update_of i k x o w s ms (find x s.from ms)
-update_event i k s ms (Fence o) = []
-update_event i k s ms (Print v) = []
-update_event i k s ms Ended = []
-
-abbrev pub keep_event : ℕ → ℕ → Action → List Event
-keep_event i t Silent = []
-keep_event i t (Read x o) = []
-keep_event i t (Write x v o) = was_kept i x t ∷ []
-keep_event i t (Update x o w) = []
-keep_event i t (Fence o) = []
-keep_event i t (Print v) = []
-keep_event i t Ended = []
-
--- what a line of thread i does, if it is accepted
-abbrev pub event : ℕ → Line → Run → List Event
-event i (T j) r = []
-event i N r = []
-event i (R t) r = read_event i t (reads (next_of r.locations (thread_at r i).does))
-event i (W s) r = write_event i (thread_at r i) s (next_of r.locations (thread_at r i).does)
-event i (U s) r = update_event i (thread_at r i) s r.memory (next_of r.locations (thread_at r i).does)
-event i (G x v s) r = was_promised i (promised_message (thread_at r i).views x v s) ∷ []
-event i (H t) r = keep_event i t (next_of r.locations (thread_at r i).does)
-event i X r = []
-event i E r = []
-
--- where accepted lines have led: between turns, in a turn of a thread, or in a showing of it
+-- where accepted lines lead: between turns, in a turn of a thread, or in a showing of it
 pub data Place : Type 0 where
   no_turn : Place
   turn_of : ℕ → Place
@@ -96,52 +38,70 @@ shows_at (turn_of i) = showing_of i
 shows_at (showing_of i) = showing_of i
 
 -- where an accepted line leads: T into a turn, X into a showing, E out of both
-abbrev pub moves : Place → Line → Place
-moves a (T i) = turn_of i
-moves a N = a
-moves a (R t) = a
-moves a (W s) = a
-moves a (U s) = a
-moves a (G x v s) = a
-moves a (H t) = a
-moves a X = shows_at a
-moves a E = no_turn
+abbrev pub place_after : Place → Line → Place
+place_after a (T i) = turn_of i
+place_after a X = shows_at a
+place_after a E = no_turn
+place_after a line = a
 
-abbrev pub moved : Place → Line → Tried Run → Place
-moved a line (went r) = moves a line
-moved a line (refused e) = a
+-- an accepted line, with the run before it and the run after it
+pub record Move : Type 0 where
+  pub before : Run
+  pub line : Line
+  pub after : Run
 
--- only lines outside showings count
-abbrev pub event_in : Place → Line → Run → List Event
-event_in no_turn line r = []
-event_in (turn_of i) line r = event i line r
-event_in (showing_of i) line r = []
+-- lines given one after another: each is a step of the rules and accepted, or there is no such step and the
+-- run stays as it is; with the accepted ones, and the run that they lead to
+pub data Given : Run → List Line → List Move → Run → Type 0 where
+  nothing_given : {r : Run} → Given r [] [] r
+  goes : {r r₁ r₂ : Run} {line : Line} {lines : List Line} {ms : List Move}
+      → Step r line r₁ → Given r₁ lines ms r₂
+      → Given r (line ∷ lines) (record { before = r; line = line; after = r₁ } ∷ ms) r₂
+  stays : {r r₂ : Run} {line : Line} {lines : List Line} {ms : List Move}
+      → ((r₁ : Run) → Step r line r₁ → ⊥) → Given r lines ms r₂ → Given r (line ∷ lines) ms r₂
 
--- and only accepted ones
-abbrev pub counted : Place → Line → Run → Tried Run → List Event
-counted a line r (went r') = event_in a line r
-counted a line r (refused e) = []
+-- where accepted lines lead, from a place on
+abbrev pub led_to : Place → List Move → Place
+led_to a [] = a
+led_to a (m ∷ ms) = led_to (place_after a m.line) ms
 
--- the run after a line: a refused line leaves it as it is
-abbrev pub settled : Run → Tried Run → Run
-settled r (went r') = r'
-settled r (refused e) = r
+-- what a line of the turn of thread i did, between the run r and the run after it
+pub data Does (i : ℕ) (r r' : Run) : Line → List Event → Type 0 where
+  reading : (x t : ℕ) (o : ReadMode) → reads (next_action r i) ≡ Some (x, o)
+      → Does i r r' (R t) (was_read i x t ∷ [])
+  writing : (s : Span) (m : Message) → r'.memory ≡ r.memory ++ (m ∷ [])
+      → Does i r r' (W s) (was_written i m ∷ [])
+  updating : (s : Span) (m : Message) → r'.memory ≡ r.memory ++ (m ∷ [])
+      → Does i r r' (U s) (was_updated i s.from m ∷ [])
+  promising : (x v : ℕ) (s : Span) (m : Message) → r'.memory ≡ r.memory ++ (m ∷ [])
+      → Does i r r' (G x v s) (was_promised i m ∷ [])
+  keeping : (x v t : ℕ) → next_action r i ≡ Write x v Relaxed → Does i r r' (H t) (was_kept i x t ∷ [])
+  stepping : Does i r r' N []
+  beginning : (j : ℕ) → Does i r r' (T j) []
+  showing_it : Does i r r' X []
+  ending : Does i r r' E []
 
--- the run after lines, each judged on the run that the ones before led to
-abbrev pub played : Run → List Line → Run
-played r [] = r
-played r (line ∷ lines) = played (settled r (line_result line r)) lines
+-- what accepted lines did, from a place on: those in a turn count, and those of a showing do not
+pub data Did : Place → List Move → List Event → Type 0 where
+  nothing_done : {a : Place} → Did a [] []
+  in_no_turn : {m : Move} {ms : List Move} {es : List Event}
+      → Did (place_after no_turn m.line) ms es → Did no_turn (m ∷ ms) es
+  in_a_turn : {i : ℕ} {m : Move} {ms : List Move} {es fs : List Event}
+      → Does i m.before m.after m.line es → Did (place_after (turn_of i) m.line) ms fs
+      → Did (turn_of i) (m ∷ ms) (es ++ fs)
+  in_a_showing : {i : ℕ} {m : Move} {ms : List Move} {es : List Event}
+      → Did (place_after (showing_of i) m.line) ms es → Did (showing_of i) (m ∷ ms) es
 
--- where the accepted ones of these lines lead
-abbrev pub placed : Place → Run → List Line → Place
-placed a r [] = a
-placed a r (line ∷ lines) = placed (moved a line (line_result line r)) (settled r (line_result line r)) lines
+-- the run at the X of the showing that is open, none where none is: after one more accepted line of the run r
+abbrev pub shown_after : Option Run → Run → Line → Option Run
+shown_after x r X = Some r
+shown_after x r E = None
+shown_after x r line = x
 
--- what the counted ones of these lines did
-abbrev pub history : Place → Run → List Line → List Event
-history a r [] = []
-history a r (line ∷ lines) =
-    counted a line r (line_result line r) ++ history (moved a line (line_result line r)) (settled r (line_result line r)) lines
+-- and after accepted lines
+abbrev pub shown_from : Option Run → List Move → Option Run
+shown_from x [] = x
+shown_from x (m ∷ ms) = shown_from (shown_after x m.before m.line) ms
 
 -- the messages that a history brought
 abbrev pub messages : List Event → List Message

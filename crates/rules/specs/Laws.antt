@@ -1,17 +1,20 @@
 -- The laws over whole runs.
-use Rattle.std.specs.Prelude.{◌≡◌, ℕ, ◌<◌, ◌≤◌, ◌⊎◌, List, [], ◌∷◌, length, ◌≢◌}
+use Rattle.std.specs.Prelude.{◌≡◌, ℕ, ◌<◌, ◌≤◌, ◌⊎◌, List, [], ◌∷◌, ◌++◌, length, Some, None, ◌≢◌}
 use Rattle.lines.specs.declared.trace.Line.{Line}
+use Rattle.lines.specs.declared.trace.Line.TheVariants.{EndTurn as E}
 use Rattle.languages.specs.Behaviours.{Behaviour}
 use Rattle.stores.specs.declared.view.View.{View}
 use Rattle.stores.specs.declared.message.Message.{Message}
 use Rattle.stores.specs.Views.{at, Below}
 use Rattle.stores.specs.StoreLaws.{In, Overlaps}
-use Rattle.rules.specs.Models.{Views, Run, thread_at}
+use Rattle.rules.specs.Models.{Views, between, Run, thread_at, in_phase}
 use Rattle.rules.specs.Threads.{rel_at}
-use Rattle.rules.specs.Rules.{went, line_result, made, initial}
+use Rattle.rules.specs.Rules.{went, line_result, made, initial, played, accepted_count}
+use Rattle.rules.specs.Reasons.{Refusals, Acceptances}
 use Rattle.rules.specs.Alone.{Within, CanKeep}
 use Rattle.rules.specs.Steps.{Step, lone_at}
-use Rattle.rules.specs.Histories.{Event, Place, no_turn, placed, history, played, present, owes_after, times, updates, undone, place_of}
+use Rattle.rules.specs.Histories.{Event, Place, no_turn, Move, Given, led_to, Did, shown_from, present}
+use Rattle.rules.specs.Histories.{owes_after, times, updates, undone, place_of}
 
 -- a line is accepted, and leads to a run, exactly when the rules have that step
 abbrev pub Agreement : Run → Type 0
@@ -71,15 +74,28 @@ pub record Ordered (vs : Views) : Type 0 where
   pub rel : (x : ℕ) → Below (rel_at vs x) vs.cur
   pub acq : Below vs.cur vs.acq
 
--- the law of a run on l locations, with the place that its accepted lines led to and their history
-pub record Lawful (l : ℕ) (r : Run) (a : Place) (es : List Event) : Type 0 where
+-- after the E of a showing the run is in all its parts the one at its X, but between turns;
+-- and an open showing, undone, is the run at its X
+pub record PutsBack (ms : List Move) (r : Run) : Type 0 where
+  pub ended : (before later : List Move) (e : Move) (x : Run) → ms ≡ before ++ (e ∷ later) → e.line ≡ E
+      → shown_from None before ≡ Some x → e.after ≡ in_phase x between
+  pub not_ended : (x : Run) → shown_from None ms ≡ Some x → undone r ≡ x
+
+-- the law of a run on l locations, after these accepted lines and what they did
+pub record Lawful (l : ℕ) (r : Run) (ms : List Move) (es : List Event) : Type 0 where
   pub locations : r.locations ≡ l
   pub agreement : Agreement r
-  -- the phase is that of the accepted lines; the memory and the marks, with an open showing put back, are those of the history
-  pub phase : place_of r.phase ≡ a
+  -- a refused line is refused for its first reason, and only for that
+  pub refusals : Refusals r
+  -- and a line is accepted exactly when there is no reason
+  pub acceptances : Acceptances r
+  -- the phase is that of the accepted lines
+  pub phase : place_of r.phase ≡ led_to no_turn ms
+  -- the memory and the marks, with an open showing put back, are those of the history
   pub memory : (undone r).memory ≡ present l es
   pub owed : (i : ℕ) → (lone_at (undone r) i).owed ≡ owes_after i [] es
-  pub promises : PromisesCanBeKept r a es
+  pub back : PutsBack ms r
+  pub promises : PromisesCanBeKept r (led_to no_turn ms) es
   pub updates : UpdatesExclusive es
   pub times : NeverBack es
   pub well_formed : (m : Message) → In m r.memory → WellFormed m
@@ -92,8 +108,21 @@ pub record Lawful (l : ℕ) (r : Run) (a : Place) (es : List Event) : Type 0 whe
   pub places : (m : Message) → In m r.memory → m.location < l
   pub printers : (p : ℕ × ℕ) → IsIn p r.log → p.0 < length r.threads
 
--- every run that is made, in a store of at most 64 messages, is lawful after every list of lines
+-- the lines have a history, and only one: which were accepted, where they led, and what they did
+pub record OneHistory (first : Run) (lines : List Line) : Type 0 where
+  pub run : Run
+  pub moves : List Move
+  pub events : List Event
+  pub given : Given first lines moves run
+  pub did : Did no_turn moves events
+  pub one_given : (r : Run) (ms : List Move) → Given first lines ms r → (ms ≡ moves) × (r ≡ run)
+  pub one_did : (es : List Event) → Did no_turn moves es → es ≡ events
+
+-- every run that is made, in a store of at most 64 messages, is lawful after every list of lines;
+-- it is the run that the definition leads to, with as many lines accepted
 abbrev pub RunsAreLawful : Type 0
 RunsAreLawful =
-    (bs : List Behaviour) (n l capacity : ℕ) → capacity ≤ 64 → (r : Run) → made bs n l capacity ≡ went r
-    → (lines : List Line) → Lawful l (played r lines) (placed no_turn r lines) (history no_turn r lines)
+    (bs : List Behaviour) (n l capacity : ℕ) → capacity ≤ 64
+    → (first : Run) → made bs n l capacity ≡ went first → (lines : List Line)
+    → (h : OneHistory first lines) × Lawful l h.run h.moves h.events
+    × (h.run ≡ played first lines) × (length h.moves ≡ accepted_count first lines)

@@ -2,8 +2,9 @@ pub mod Faults
 pub mod Models
 pub mod Threads
 pub mod Alone
-pub mod Steps
 pub mod Rules
+pub mod Steps
 pub mod Histories
+pub mod Reasons
 pub mod Laws
 pub mod Examples

@@ -1,5 +1,6 @@
 -- What a run stands for, with its language and its store left behind.
-use Rattle.std.specs.Prelude.{ℕ, Bool, false, List, map, length, take, replicate, slice_index_or, slice_set}
+use Rattle.std.specs.Prelude.{ℕ, zero, suc, Bool, false, List, [], ◌∷◌, ◌++◌, map, length, take, replicate}
+use Rattle.std.specs.Prelude.{slice_index_or, slice_set}
 use Rattle.std.specs.List.{range_with_len}
 use Rattle.languages.specs.declared.action.Action.TheVariants.{Ended}
 use Rattle.languages.specs.declared.action.Taking.TheVariants.{NotTaken}
@@ -85,6 +86,15 @@ with_part r i p =
 abbrev pub in_phase : Run → Phase → Run
 in_phase r ph =
     record { locations = r.locations; threads = r.threads; memory = r.memory; capacity = r.capacity; sc = r.sc; log = r.log; phase = ph }
+
+-- the initial message of x
+abbrev pub initial : ℕ → Message
+initial x = record { location = x; span = record { from = 0; to = 0 }; value = 0; view = zero_view }
+
+-- the initial messages of the first l locations
+abbrev pub initials : ℕ → List Message
+initials zero = []
+initials (suc l) = initials l ++ (initial l ∷ [])
 
 -- the greatest end of each location
 abbrev pub closing_line : List Message → View

@@ -1,5 +1,5 @@
 -- What each line does, and the first reason for which it is refused.
-use Rattle.std.specs.Prelude.{◌≡◌, ℕ, zero, suc, Bool, true, false, if◌then◌else◌, ◌&&◌, List, [], ◌∷◌, ◌++◌, map, length, take, Some, None, Ok, Err, Option, Result, ◌==◌, nat_le, nat_lt, slice_index_or, slice_set}
+use Rattle.std.specs.Prelude.{◌≡◌, ℕ, zero, suc, ◌+◌, Bool, true, false, if◌then◌else◌, ◌&&◌, List, [], ◌∷◌, ◌++◌, map, length, take, Some, None, Ok, Err, Option, Result, ◌==◌, nat_le, nat_lt, slice_index_or, slice_set}
 use Rattle.lines.specs.declared.span.Span.{Span}
 use Rattle.lines.specs.Scopes.{in_scope}
 use Rattle.lines.specs.declared.trace.Line.{Line}
@@ -21,8 +21,9 @@ use Rattle.stores.specs.Views.{at, zero_view, join}
 use Rattle.stores.specs.Memory.{zero_message, find, is_free}
 use Rattle.rules.specs.declared.fault.StepFault.{StepFault}
 use Rattle.rules.specs.declared.fault.StepFault.TheVariants.{Range, Moment, Kind, Owing, NoMessage, TooNew, Value, Span as BadSpan, ClosingLine, Store, LogFull, StillOwing}
-use Rattle.rules.specs.Models.{Views, Thread, Part, Phase, between, turn, showing, Run, fresh, thread_at, part_at, with_part, in_phase}
-pub use Rattle.rules.specs.Models.{closing_line, saved, put_back}
+use Rattle.rules.specs.Models.{Views, Thread, Part, Phase, between, turn, showing, Run, fresh, thread_at}
+use Rattle.rules.specs.Models.{part_at, with_part, in_phase}
+pub use Rattle.rules.specs.Models.{initial, initials, closing_line, saved, put_back}
 use Rattle.rules.specs.Threads.{next_of, reads, read_views, write_views, acquire_views, release_views, both_views, all_views, none_owed, owes_at, find_owed}
 pub use Rattle.rules.specs.Threads.{update_views, written, updated_message, promised_message, owing}
 
@@ -267,15 +268,6 @@ line_result E r = end_in r r.phase
 
 -- making a run
 
--- the initial message of x
-abbrev pub initial : ℕ → Message
-initial x = record { location = x; span = record { from = 0; to = 0 }; value = 0; view = zero_view }
-
--- the initial messages of the first l locations
-abbrev pub initials : ℕ → List Message
-initials zero = []
-initials (suc l) = initials l ++ (initial l ∷ [])
-
 abbrev pub new_run : List Behaviour → ℕ → ℕ → ℕ → Run
 new_run bs n l capacity =
     record {
@@ -292,3 +284,26 @@ new_run bs n l capacity =
 abbrev pub made : List Behaviour → ℕ → ℕ → ℕ → Tried Run
 made bs n l capacity =
     if in_scope n l then (if nat_le l capacity then went (new_run bs n l capacity) else refused (Store Full)) else refused Range
+
+-- lines one after another
+
+-- the run after a line: a refused one leaves it as it is
+abbrev pub settled : Run → Tried Run → Run
+settled r (went r') = r'
+settled r (refused e) = r
+
+-- the run after lines, each judged on the run that the ones before led to
+abbrev pub played : Run → List Line → Run
+played r [] = r
+played r (line ∷ lines) = played (settled r (line_result line r)) lines
+
+-- one more, if the line went
+abbrev pub one_more : {Y : Type 0} → Tried Y → ℕ → ℕ
+one_more (went y) n = n + 1
+one_more (refused e) n = n
+
+-- how many of them are accepted
+abbrev pub accepted_count : Run → List Line → ℕ
+accepted_count r [] = 0
+accepted_count r (line ∷ lines) =
+    one_more (line_result line r) (accepted_count (settled r (line_result line r)) lines)

@@ -16,6 +16,14 @@ use Rattle.rules.specs.Alone.{Lone, lone, OwesNothing, Alone}
 abbrev pub lone_at : Run → ℕ → Lone
 lone_at r i = lone (thread_at r i) r.memory
 
+-- thread i owes something
+abbrev pub Owes : Run → ℕ → Type 0
+Owes r i = OwesNothing (lone_at r i) → ⊥
+
+-- what thread i does next
+abbrev pub next_action : Run → ℕ → Action
+next_action r i = next_of r.locations (thread_at r i).does
+
 -- what the thread i prints by an action
 abbrev pub printed : ℕ → Action → List (ℕ × ℕ)
 printed i Silent = []
@@ -33,7 +41,8 @@ Marks bs ms = (length bs ≡ 64) × ((j : ℕ) → length ms ≤ j → slice_ind
 -- the thread that may act, with the closing line that holds: in a showing it may as long as it owes something
 pub data Acting (r : Run) : ℕ → Option View → Type 0 where
   in_turn : (i : ℕ) → r.phase ≡ turn i → Acting r i None
-  in_showing : (i : ℕ) (s : Saved) (line : View) → r.phase ≡ showing i s line → (OwesNothing (lone_at r i) → ⊥) → Acting r i (Some line)
+  in_showing : (i : ℕ) (s : Saved) (line : View) → r.phase ≡ showing i s line → Owes r i
+      → Acting r i (Some line)
 
 -- by which line the run r comes to which run
 pub data Step (r : Run) : Line → Run → Type 0 where
@@ -44,13 +53,13 @@ pub data Step (r : Run) : Line → Run → Type 0 where
       → Alone r.locations closing (lone_at r i) r.sc r.memory line (lone k M) S M
       → Marks k.owed M
       → length M ≤ r.capacity
-      → length (r.log ++ printed i (next_of r.locations (thread_at r i).does)) ≤ 64
+      → length (r.log ++ printed i (next_action r i)) ≤ 64
       → Step r line (with_part r i (record {
         thread = k;
         memory = M;
         capacity = r.capacity;
         sc = S;
-        log = r.log ++ printed i (next_of r.locations (thread_at r i).does);
+        log = r.log ++ printed i (next_action r i);
       }))
   promises : (i x v : ℕ) (s : Span)
       → r.phase ≡ turn i → x < r.locations
@@ -63,8 +72,14 @@ pub data Step (r : Run) : Line → Run → Type 0 where
         sc = r.sc;
         log = r.log;
       }))
-  shows : (i : ℕ) → r.phase ≡ turn i → (OwesNothing (lone_at r i) → ⊥)
+  shows : (i : ℕ) → r.phase ≡ turn i → Owes r i
       → Step r X (in_phase r (showing i (saved r i) (closing_line r.memory)))
   ends_turn : (i : ℕ) → r.phase ≡ turn i → OwesNothing (lone_at r i) → Step r E (in_phase r between)
   ends_showing : (i : ℕ) (s : Saved) (line : View) → r.phase ≡ showing i s line → OwesNothing (lone_at r i)
       → Step r E (in_phase (put_back r i s) between)
+
+-- each line is a step, from the run that the ones before it led to
+pub data Leads : Run → List Line → Run → Type 0 where
+  nowhere_yet : {r : Run} → Leads r [] r
+  by_step : {r r₁ r₂ : Run} {line : Line} {lines : List Line} → Step r line r₁ → Leads r₁ lines r₂
+      → Leads r (line ∷ lines) r₂

@@ -1,5 +1,5 @@
 -- How the views of a thread change, and which messages it owes.
-use Rattle.std.specs.Prelude.{ℕ, Bool, true, if◌then◌else◌, not, ◌&&◌, List, [], ◌∷◌, replicate, zip, Some, None, Option, ◌==◌, nat_lt, slice_index_or, slice_set}
+use Rattle.std.specs.Prelude.{ℕ, ◌+◌, Bool, true, false, if◌then◌else◌, not, ◌&&◌, List, [], ◌∷◌, replicate, zip, Some, None, Option, ◌==◌, nat_lt, slice_index_or, slice_set}
 use Rattle.lines.specs.declared.span.Span.{Span}
 use Rattle.std.specs.List.{list_all, list_any, position_from}
 use Rattle.languages.specs.declared.action.Action.{Action}
@@ -121,3 +121,12 @@ find_owed x t bs ms = find_owed_from 0 x t bs ms
 -- the thread owes the message that arrives as number j
 abbrev pub owing : Thread → ℕ → Thread
 owing k j = record { does = k.does; views = k.views; owed = slice_set k.owed j true }
+
+-- the first thread that owes the message that arrived as number k
+abbrev pub owing_thread : ℕ → List Thread → Option ℕ
+owing_thread k ts = position_from (λ t. slice_index_or t.owed k false) 0 ts
+
+-- 0, or the owing thread plus 1
+abbrev pub owner : Option ℕ → ℕ
+owner None = 0
+owner (Some i) = i + 1

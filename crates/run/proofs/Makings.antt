@@ -1,11 +1,11 @@
 -- Making a run.
-use Rattle.std.proofs.Common.{◌≡◌, ℕ, ◌<◌, ◌≤◌, Bool, true, false, cond, leb, List, [], ◌∷◌, length, get_or, Ok, Err, Result, sym, refl, ap, ◌∙◌, arith}
+use Rattle.std.proofs.Common.{◌≡◌, ℕ, ◌<◌, ◌≤◌, Bool, true, false, cond, leb, min, List, [], ◌∷◌, length, get_or, Ok, Err, Result, sym, refl, ap, ◌∙◌, arith}
 use Rattle.std.proofs.lemmas.Bool.{le-leb, lt-leb, ltb-false, cond-true, cond-false}
 use Rattle.lines.specs.Scopes.{in_scope}
 use Rattle.stores.specs.declared.kept.StoreFault.{StoreFault}
 use Rattle.stores.specs.declared.kept.StoreFault.TheVariants.{Full}
 use Rattle.stores.specs.declared.message.Message.{Message}
-use Rattle.stores.specs.Memory.{add_answer}
+use Rattle.stores.specs.Memory.{add_answer, added}
 use Rattle.languages.specs.Behaviours.{Behaviour}
 use Rattle.rules.specs.declared.fault.StepFault.TheVariants.{Store}
 use Rattle.rules.specs.Rules.{went, refused, initials, new_run, made}
@@ -31,11 +31,17 @@ module _ (capacity x : ℕ) (ms : List Message) (a : Result Unit StoreFault) (he
       let q = ltb-false (length ms) capacity (refused_answer _ e (sym asked ∙ ea)) in
       lt-leb l capacity (omega arith)
 
+  -- and is left with the messages that it had
+  pub fill_left : (l : ℕ) (m : Message) (e : StoreFault) → x < l → a ≡ Err e → length ms ≤ capacity → added capacity m ms ≡ initials (min l capacity)
+  fill_left l m e h ea bound =
+      let n = ap length held ∙ initials_length x in
+      let full = refused_answer _ e (sym asked ∙ ea) in
+      let q = ltb-false (length ms) capacity full in
+      let all : x ≡ min l capacity = omega arith in
+      cond-false _ _ _ full ∙ held ∙ ap initials all
+
 pub fill_done : (capacity x l : ℕ) (ms : List Message) → ms ≡ initials x → x ≡ l → length ms ≤ capacity → leb l capacity ≡ true
 fill_done capacity x l ms held e h = let n = ap length held ∙ initials_length x in le-leb l capacity (omega arith)
-
-pub not_both : (r : Result Unit StoreFault) (e : StoreFault) → r ≡ Err e → r ≡ Ok tt → ⊥
-not_both r e p q = cc
 
 module _ (bs : List Behaviour) (n l capacity : ℕ) (range : in_scope n l ≡ true) where
   pub made_full : leb l capacity ≡ false → made bs n l capacity ≡ refused (Store Full)

@@ -1,5 +1,5 @@
 // Making a run.
-ghost use Rattle.std.specs.Prelude.{◌≡◌, map, if◌then◌else◌, Ok, Err, nat_le};
+ghost use Rattle.std.specs.Prelude.{◌≡◌, map, if◌then◌else◌, Ok, Err, nat_le, min};
 ghost use Rattle.stores.specs.declared.kept.StoreFault.TheVariants.{Full};
 ghost use Rattle.rules.specs.Rules.{initial, initials, made};
 ghost use Rattle.run.specs.Models.{tried};
@@ -27,10 +27,11 @@ fn initial(location: u8) -> Message
     }
 }
 
-// empties the store and adds the initial messages, by location
+// empties the store and adds the initial messages, by location; where there is no room for all of them, it is
+// left with those that it has room for
 fn fill<S: Store>(store: &mut S, locations: u8) -> Result<(), StoreFault>
     ensures value { result ≡ (if nat_le locations (S.Store.capacity store.old) then Ok tt else Err Full) }
-    ensures after { result ≡ Ok tt → S.Store.held store.new ≡ initials locations }
+    ensures after { S.Store.held store.new ≡ initials (min locations (S.Store.capacity store.old)) }
     ensures same { S.Store.capacity store.new ≡ S.Store.capacity store.old }
 {
     store.keep(0);
@@ -41,7 +42,9 @@ fn fill<S: Store>(store: &mut S, locations: u8) -> Result<(), StoreFault>
 }
 
 impl<L: Language, S: Store> Run<L, S> {
-    // A run of the first n of the threads, on that many locations, in the store.
+    /// A run of the first n of the threads (1 to 4), on that many locations (1 to 8), in the store, which is
+    /// emptied. Other numbers are refused as out of range, and then a store with fewer places than locations
+    /// as full.
     pub fn new(threads: [L; 4], n: u8, locations: u8, store: S) -> Result<Run<L, S>, StepFault>
         ensures { tried L.Language S.Store result ≡ made (map L.Language.behaves threads) n locations (S.Store.capacity store) }
     {

@@ -1,8 +1,8 @@
 // A run, line by line.
 ghost use Rattle.std.specs.Prelude.{◌≡◌, true, map};
 ghost use Rattle.rules.specs.Rules.{Agrees, act_in, line_result, made};
-ghost use Rattle.run.specs.Models.{run_of, RunAgrees, tried};
-ghost use Rattle.run.specs.Plays.{plays, Obeys};
+ghost use Rattle.run.specs.Models.{run_of, RunAgrees};
+ghost use Rattle.run.specs.Plays.{outcome_of, plays, Obeys};
 ghost use Rattle.run.specs.Moments.{in_range, moment_result};
 
 use crate::state::{Phase, Run};
@@ -67,7 +67,8 @@ impl<L: Language, S: Store> Run<L, S> {
         }
     }
 
-    // One line: accepted, or refused with the run unchanged.
+    /// One line of a trace, with any thread, location, value and ends: accepted, or refused for its first
+    /// reason, and then the run stands for what it stood for before.
     #[inline(always)]
     pub fn step(&mut self, line: Line) -> Result<(), StepFault>
         ensures { Agrees (line_result line (run_of L.Language S.Store self.old)) (run_of L.Language S.Store self.old) result (run_of L.Language S.Store self.new) }
@@ -79,21 +80,36 @@ impl<L: Language, S: Store> Run<L, S> {
     }
 }
 
-// Makes a run and gives it the lines, one after another. A refused line leaves the run as it was, and each line is
-// judged on the run that the ones before it led to.
+/// What lines led to.
+#[derive(Drop)]
+pub struct Played<L, S> {
+    /// The run after the lines.
+    pub run: Run<L, S>,
+    /// How many of the lines were accepted.
+    pub accepted: usize,
+}
+
+/// Makes a run as `Run::new` does and gives it the lines, one after another: each is judged on the run that
+/// the ones before it led to, and a refused one leaves it as it was. Refused only where no run can be made.
 pub fn play<L: Language, S: Store>(
     threads: [L; 4],
     n: u8,
     locations: u8,
     store: S,
     lines: &[Line],
-) -> Result<Run<L, S>, StepFault>
-    ensures ends { tried L.Language S.Store result ≡ plays (made (map L.Language.behaves threads) n locations (S.Store.capacity store)) lines.now }
-    ensures law { Obeys locations (made (map L.Language.behaves threads) n locations (S.Store.capacity store)) lines.now (tried L.Language S.Store result) }
+) -> Result<Played<L, S>, StepFault>
+    ensures ends { outcome_of L.Language S.Store result
+        ≡ plays (made (map L.Language.behaves threads) n locations (S.Store.capacity store)) lines.now }
+    ensures law { Obeys locations
+        (made (map L.Language.behaves threads) n locations (S.Store.capacity store)) lines.now
+        (outcome_of L.Language S.Store result) }
 {
     let mut run = Run::new(threads, n, locations, store)?;
+    let mut accepted = 0;
     for line in lines {
-        let _ = run.step(*line);
+        if run.step(*line).is_ok() {
+            accepted += 1;
+        }
     }
-    Ok(run)
+    Ok(Played { run, accepted })
 }

@@ -3,6 +3,7 @@
 ghost use Rattle.std.specs.Prelude.{◌^◌, ◌<◌};
 ghost use prog.Memory.{size};
 ghost use denote.Param.{layout};
+ghost use Rattle.run.specs.contracts.play.Played.{the_row as played_row};
 ghost use Rattle.run.specs.contracts.state.Run.{the_row};
 
 use languages::action::{FenceKind, ReadMode, WriteMode};
@@ -240,13 +241,14 @@ fn passes_over<L: Language + Copy, S: Store>(
     store: S,
     lines: &[Line],
 ) -> Result<(), Fail>
-    requires { size (layout (the_row L.row S.row)) < 2 ^ 63 }
+    requires { size (layout (played_row L.row S.row)) < 2 ^ 63 }
 {
-    let Ok(run) = play(threads, 1, 2, store, lines) else {
+    let Ok(played) = play(threads, 1, 2, store, lines) else {
         return Err(Fail::new("not made"));
     };
-    assert!(rt; !run.is_between());
-    owes_and_printed(rt, &run)
+    assert_eq!(rt; played.accepted, 4);
+    assert!(rt; !played.run.is_between());
+    owes_and_printed(rt, &played.run)
 }
 
 // lines that are refused leave the run as it was

@@ -11,8 +11,11 @@ pub returns-in_err-line : goal.returns-in_err-line
 returns-in_err-line g c =
     let o = reads (trace_lines c.args.scope.threads c.args.scope.locations) c.args.reader.now.rest.now in
     let p = err_from_is_err_and c.from_residual.result c.from_residual.ensures.1 in
-    not_read o c.in_err-line.field-0.0 (run_of g.L.Language g.S.Store c.args.run.now) _ _ c.from_residual.result
-    (was_refused o c.in_err-line.field-0.0 c.in_err-line.ensures.value) (p.1 ∙ ap Err p.2)
+    record {
+      value = not_read o c.in_err-line.field-0.0 (run_of g.L.Language g.S.Store c.args.run.now) c.from_residual.result
+          (was_refused o c.in_err-line.field-0.0 c.in_err-line.ensures.value) (p.1 ∙ ap Err p.2);
+      left = c.in_err-line.ensures.left;
+    }
 
 pub returns-in_err-step : goal.returns-in_err-step
 returns-in_err-step g c =
@@ -20,16 +23,22 @@ returns-in_err-step g c =
     let o = reads (trace_lines c.args.scope.threads c.args.scope.locations) bs in
     let rest = c.read.new.reader.rest.now in
     let p = err_from_is_err_and c.from_residual-in_err-step.result c.from_residual-in_err-step.ensures.1 in
-    not_accepted o c.in_ok-line.line rest (run_of g.L.Language g.S.Store c.args.run.now)
-    (was_read o c.in_ok-line.line bs rest c.in_ok-line.ensures.value c.in_ok-line.ensures.left)
-    c.step.result (run_of g.L.Language g.S.Store c.step.new.self) c.from_residual-in_err-step.result c.in_err-step.field-0.0
-    c.step.ensures c.in_err-step.was (p.1 ∙ ap Err p.2)
+    record {
+      value = not_accepted o c.in_ok-line.line rest (run_of g.L.Language g.S.Store c.args.run.now)
+          (was_read o c.in_ok-line.line bs rest c.in_ok-line.ensures.value c.in_ok-line.ensures.left)
+          c.step.result (run_of g.L.Language g.S.Store c.step.new.self) c.from_residual-in_err-step.result c.in_err-step.field-0.0
+          c.step.ensures c.in_err-step.was (p.1 ∙ ap Err p.2);
+      left = c.in_ok-line.ensures.left;
+    }
 
 pub returns : goal.returns
 returns g c =
     let bs = c.args.reader.now.rest.now in
     let o = reads (trace_lines c.args.scope.threads c.args.scope.locations) bs in
     let rest = c.read.new.reader.rest.now in
-    accepted o c.in_ok-line.line rest (run_of g.L.Language g.S.Store c.args.run.now)
-    (was_read o c.in_ok-line.line bs rest c.in_ok-line.ensures.value c.in_ok-line.ensures.left)
-    c.step.result (run_of g.L.Language g.S.Store c.step.new.self) c.step.ensures c.in_ok-step.was
+    record {
+      value = accepted o c.in_ok-line.line rest (run_of g.L.Language g.S.Store c.args.run.now)
+          (was_read o c.in_ok-line.line bs rest c.in_ok-line.ensures.value c.in_ok-line.ensures.left)
+          c.step.result (run_of g.L.Language g.S.Store c.step.new.self) c.step.ensures c.in_ok-step.was;
+      left = c.in_ok-line.ensures.left;
+    }

@@ -6,7 +6,7 @@ use Rattle.run.specs.Models.{thread_of, run_of, tried}
 use Rattle.run.proofs.Moments.{count_is}
 use Rattle.jobs.specs.Programs.{cut, nowhere}
 use Rattle.judge.specs.Printable.{Printable}
-use Rattle.judge.specs.Traces.{followed, trace_judged, Follows}
+use Rattle.judge.specs.Traces.{followed, run_left, trace_judged, Follows}
 use Rattle.judge.proofs.Traced.{followed_printable}
 use Rattle.judge.proofs.VerdictSteps.{not_made, trace_refused, trace_accepted, was_followed, cut_within}
 use Rattle.judge.proofs.verdict.report_run.Goals as goal
@@ -31,7 +31,7 @@ accepted-requires g c =
     let run = c.follow.new.run in
     let first = m c.in-Ok.run' in
     let is = sym (ap (tried g.L.Language g.S.Store) c.in-Ok.is) ∙ c.new.ensures ∙ same_made _ _ _ _ _ _ c.threads.ensures c.locations.ensures in
-    let f = was_followed (followed n l first c.trace.result.now) c.in-Ok-follow.count (m run) c.in-Ok-follow.ensures.value in
+    let f = was_followed (followed n l first c.trace.result.now) c.in-Ok-follow.count (run_left n l first c.trace.result.now) (m run) c.in-Ok-follow.ensures.value in
     let four : length (m run).threads ≡ run.scope.threads = count_is (thread_of g.L.Language) run.scope.threads run.threads (omega arith) in
     let printable = followed_printable (map g.L.Language.behaves c.args.threads) n l (g.S.Store.capacity c.args.store) (g.met.S.Store.small c.args.store) (omega arith) (omega arith) first (sym is) c.trace.result.now f.0 f.1
     (subst (λ (r : Run). length r.threads ≤ 4) f.2 (omega arith)) in
@@ -47,8 +47,8 @@ returns-in-Ok-follow g c =
     let first = m c.in-Ok.run' in
     let is = sym (ap (tried g.L.Language g.S.Store) c.in-Ok.is) ∙ c.new.ensures ∙ same_made _ _ _ _ _ _ c.threads.ensures c.locations.ensures in
     ap Ok c.accepted.ensures ∙ trace_accepted (made (map g.L.Language.behaves c.args.threads) n l (g.S.Store.capacity c.args.store)) (λ r. trace_judged n l r (cut c.args.file.now (get_or head.sections n nowhere))) (n + 1)
-    first (m c.follow.new.run) is c.in-Ok-follow.count
-    (subst (λ xs. Follows (trace_judged n l first xs) (Ok c.in-Ok-follow.count) (m c.follow.new.run)) c.trace.ensures c.in-Ok-follow.ensures.value)
+    first (run_left n l first (cut c.args.file.now (get_or head.sections n nowhere))) (m c.follow.new.run) is c.in-Ok-follow.count
+    (subst (λ xs. Follows (trace_judged n l first xs) (run_left n l first xs) (Ok c.in-Ok-follow.count) (m c.follow.new.run)) c.trace.ensures c.in-Ok-follow.ensures.value)
 
 pub returns : goal.returns
 returns g c =
@@ -61,4 +61,4 @@ returns g c =
     (λ i. Err (record { fault = c.in_section.ensures.fault i; section = c.in_section.ensures.section i; line = c.in_section.ensures.line i }))
     ∙ (λ i. Err (record { fault = c.in-Err-follow.refusal.fault; section = c.threads-in-Err-follow.ensures i + 1; line = c.in-Err-follow.refusal.line }))
     ∙ trace_refused (made (map g.L.Language.behaves c.args.threads) n l (g.S.Store.capacity c.args.store)) (λ r. trace_judged n l r (cut c.args.file.now (get_or head.sections n nowhere))) (n + 1)
-    first (m c.follow.new.run) is c.in-Err-follow.refusal (subst (λ xs. Follows (trace_judged n l first xs) (Err c.in-Err-follow.refusal) (m c.follow.new.run)) c.trace.ensures c.in-Err-follow.ensures.value)
+    first (run_left n l first (cut c.args.file.now (get_or head.sections n nowhere))) (m c.follow.new.run) is c.in-Err-follow.refusal (subst (λ xs. Follows (trace_judged n l first xs) (run_left n l first xs) (Err c.in-Err-follow.refusal) (m c.follow.new.run)) c.trace.ensures c.in-Err-follow.ensures.value)
