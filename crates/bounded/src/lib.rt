@@ -4,9 +4,12 @@
 ghost use Rattle.std.specs.Prelude.{◌≡◌, ◌==◌, ◌≤◌, Bool, [], length, take, filter, slice_get};
 ghost use Rattle.std.specs.List.{prefix_len};
 ghost use Rattle.bounded.specs.Bounds.{add_answer, push_within, insert_within};
+ghost use Rattle.bounded.specs.Fixed.{elements};
 
+use crate::fixed::Fixed;
 use std::marker::Model;
 
+pub mod fixed;
 #[cfg(test)]
 mod tests;
 
@@ -79,6 +82,13 @@ impl<T: Copy, const N: usize> Bounded<T, N> {
         ensures few { length result.now ≤ N }
     {
         &self.slots[..self.len]
+    }
+
+    // The same elements, in a list that can be copied.
+    pub fn fixed(&self) -> Fixed<T, N>
+        ensures { elements result ≡ self.now }
+    {
+        Fixed::of(self.slots, self.len)
     }
 
     // The k-th element from 0.

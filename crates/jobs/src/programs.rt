@@ -1,5 +1,6 @@
 // The bytes of a job's sections, and the programs, one in each section but the last.
 ghost use Rattle.std.specs.Prelude.{◌≡◌, ℕ, ◌≤◌, [], length, take, slice_index_or};
+ghost use Rattle.bounded.specs.Fixed.{elements};
 ghost use Rattle.jobs.specs.Programs.{cut, nowhere, programs_after, programs_of};
 
 use crate::fault::{FileFault, Refusal};
@@ -27,7 +28,7 @@ impl Head {
         &self,
         file: &[u8],
     ) -> Result<[Program<I>; 4], Refusal<FileFault>>
-        ensures { programs_of self.now.job.scope.threads result ≡ programs_after (I.ProgramLine.reads self.now.job.scope.locations) file.now 1 [] (take self.now.job.scope.threads self.now.sections) }
+        ensures { programs_of self.now.job.scope.threads result ≡ programs_after (I.ProgramLine.reads self.now.job.scope.locations) file.now 1 [] (take self.now.job.scope.threads (elements self.now.sections)) }
     {
         let scope = self.job.scope;
         let threads = scope.threads() as usize;
@@ -44,7 +45,7 @@ impl Head {
 
     // The bytes of the trace: its section follows those of the programs.
     pub fn trace<'a>(&self, file: &'a [u8]) -> &'a [u8]
-        ensures { result.now ≡ cut file.now (slice_index_or self.now.sections self.now.job.scope.threads nowhere) }
+        ensures { result.now ≡ cut file.now (slice_index_or (elements self.now.sections) self.now.job.scope.threads nowhere) }
     {
         let sections = self.sections.as_slice();
         sections[self.job.scope.threads() as usize].cut(file)

@@ -89,7 +89,10 @@ fn head_of(file: &[u8]) -> Result<Head, Refusal<FileFault>>
             section: 0,
             line: k + 2,
         }),
-        None => Ok(Head { job, sections }),
+        None => Ok(Head {
+            job,
+            sections: sections.fixed(),
+        }),
     }
 }
 

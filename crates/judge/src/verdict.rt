@@ -1,5 +1,6 @@
 // What is found of a job file.
 ghost use Rattle.std.specs.Prelude.{◌≡◌, ℕ, ◌≤◌, map, length};
+ghost use Rattle.bounded.specs.Fixed.{elements};
 ghost use Rattle.judge.specs.declared.fault.Fault.TheVariants.{Step as StepOf};
 ghost use Rattle.judge.specs.JobLaws.{Judges};
 ghost use Rattle.judge.specs.Layouts.{Addressed, JobsAddressed};
@@ -47,7 +48,7 @@ fn report_run<L: Language + Copy, S: Store>(
 ) -> Result<Text, Refusal>
     requires layout { Addressed L.row S.row }
     requires small { length file.now ≤ 65535 }
-    ensures { told_by result ≡ told (with_trace (S.Store.capacity store) file.now head.now.job.scope.threads head.now.job.scope.locations head.now.sections (map L.Language.behaves threads)) }
+    ensures { told_by result ≡ told (with_trace (S.Store.capacity store) file.now head.now.job.scope.threads head.now.job.scope.locations (elements head.now.sections) (map L.Language.behaves threads)) }
 {
     let scope = head.job.scope;
     let mut run = match Run::new(threads, scope.threads(), scope.locations(), store) {

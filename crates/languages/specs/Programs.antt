@@ -1,5 +1,6 @@
 -- A program: the lines of its section, at most 64.
 use Rattle.std.specs.Prelude.{◌≡◌, ℕ, if◌then◌else◌, List, [], ◌∷◌, ◌++◌, length, Ok, Err, Result, nat_lt}
+use Rattle.bounded.specs.Fixed.{elements}
 use Rattle.lines.specs.declared.reader.LineFault.{LineFault}
 use Rattle.lines.specs.declared.refusal.LineRefusal.{LineRefusal}
 use Rattle.lines.specs.Walks.{walked}
@@ -17,7 +18,7 @@ abbrev pub program : {I : Type 0} → (List ℕ → Result (I × List ℕ) LineF
 program {I} reads bs = walked (λ (lines : List I) xs. with_line lines (reads xs)) [] bs
 
 abbrev pub program_lines : {I : Type 0} → Program I → List I
-program_lines p = p.lines
+program_lines p = elements p.lines
 
 abbrev pub lines_of : {I : Type 0} → Result (Program I) (LineRefusal ProgramFault) → Result (List I) (LineRefusal ProgramFault)
 lines_of (Ok p) = Ok (program_lines p)

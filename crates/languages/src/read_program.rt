@@ -4,6 +4,7 @@ ghost use Rattle.languages.specs.Programs.{program_lines, lines_of, program, wit
 ghost use Rattle.languages.specs.declared.read_program.ProgramFault.TheVariants.{Line, TooMany};
 
 use crate::program::{MOST_LINES, ProgramLine};
+use bounded::fixed::Fixed;
 use bounded::{Bounded, Full};
 use lines::reader::{LineFault, Reader};
 use lines::refusal::LineRefusal;
@@ -33,9 +34,22 @@ impl From<Full> for ProgramFault {
     }
 }
 
-#[derive(Clone, Drop)]
+#[derive(Clone, Copy)]
 pub struct Program<I> {
-    lines: Bounded<I, MOST_LINES>,
+    lines: Fixed<I, MOST_LINES>,
+}
+
+// Reads one line more, if there is room for it.
+fn read_line<I: ProgramLine>(
+    lines: &mut Bounded<I, MOST_LINES>,
+    reader: &mut Reader,
+    scope: Scope,
+) -> Result<(), ProgramFault>
+    ensures { Adds (with_line lines.old (I.ProgramLine.reads scope.locations reader.old.rest.now)) result lines.new reader.new.rest.now }
+{
+    let line = I::read_line(reader, scope)?;
+    lines.push(line)?;
+    Ok(())
 }
 
 impl<I: ProgramLine> Program<I> {
@@ -43,7 +57,7 @@ impl<I: ProgramLine> Program<I> {
         ensures { program_lines result ≡ [] }
     {
         Program {
-            lines: Bounded::new(I::filler()),
+            lines: Bounded::new(I::filler()).fixed(),
         }
     }
 
@@ -54,27 +68,20 @@ impl<I: ProgramLine> Program<I> {
         self.lines.as_slice()
     }
 
-    // Reads one line more, if there is room for it.
-    fn read_line(&mut self, reader: &mut Reader, scope: Scope) -> Result<(), ProgramFault>
-        ensures { Adds (with_line (program_lines self.old) (I.ProgramLine.reads scope.locations reader.old.rest.now)) result (program_lines self.new) reader.new.rest.now }
-    {
-        let line = I::read_line(reader, scope)?;
-        self.lines.push(line)?;
-        Ok(())
-    }
-
     // Reads lines to the section's end. A loop of its own beside that over a trace: what grows here is the program.
     pub fn read(section: &[u8], scope: Scope) -> Result<Program<I>, LineRefusal<ProgramFault>>
         ensures { lines_of result ≡ program (I.ProgramLine.reads scope.locations) section.now }
     {
-        let mut program = Program::empty();
+        let mut lines = Bounded::new(I::filler());
         let mut reader = Reader::new(section);
         while reader.left() > 0 {
-            let line = program.lines.len() + 1;
-            if let Err(fault) = program.read_line(&mut reader, scope) {
+            let line = lines.len() + 1;
+            if let Err(fault) = read_line(&mut lines, &mut reader, scope) {
                 return Err(LineRefusal { fault, line });
             }
         }
-        Ok(program)
+        Ok(Program {
+            lines: lines.fixed(),
+        })
     }
 }

@@ -1,4 +1,5 @@
 use Rattle.std.proofs.Common.{◌≡◌, ℕ, ◌+◌, ◌≤◌, List, map, length, get_or, Ok, Err, sym, ap, ◌∙◌, subst, arith}
+use Rattle.bounded.specs.Fixed.{elements}
 use Rattle.languages.specs.Behaviours.{Behaviour}
 use Rattle.rules.specs.Rules.{made}
 use Rattle.rules.specs.Models.{Run}
@@ -20,7 +21,7 @@ returns-in-Err g c =
     let n = head.job.scope.threads in
     let l = head.job.scope.locations in
     let is = sym (ap (tried g.L.Language g.S.Store) c.in-Err.is) ∙ c.new.ensures ∙ same_made _ _ _ _ _ _ c.threads.ensures c.locations.ensures in
-    ap Err c.not_made.ensures ∙ not_made (made (map g.L.Language.behaves c.args.threads) n l (g.S.Store.capacity c.args.store)) (λ r. trace_judged n l r (cut c.args.file.now (get_or head.sections n nowhere))) (n + 1) c.in-Err.fault is
+    ap Err c.not_made.ensures ∙ not_made (made (map g.L.Language.behaves c.args.threads) n l (g.S.Store.capacity c.args.store)) (λ r. trace_judged n l r (cut c.args.file.now (get_or (elements head.sections) n nowhere))) (n + 1) c.in-Err.fault is
 
 pub accepted-requires : goal.accepted-requires
 accepted-requires g c =
@@ -35,7 +36,7 @@ accepted-requires g c =
     let four : length (m run).threads ≡ run.scope.threads = count_is (thread_of g.L.Language) run.scope.threads run.threads (omega arith) in
     let printable = followed_printable (map g.L.Language.behaves c.args.threads) n l (g.S.Store.capacity c.args.store) (g.met.S.Store.small c.args.store) (omega arith) (omega arith) first (sym is) c.trace.result.now f.0 f.1
     (subst (λ (r : Run). length r.threads ≤ 4) f.2 (omega arith)) in
-    let within = cut_within c.args.file.now (get_or head.sections n nowhere) in
+    let within = cut_within c.args.file.now (get_or (elements head.sections) n nowhere) in
     (c.requires.layout, (omega (arith, c.in-Ok-follow.ensures.few, ap length c.trace.ensures, within, c.requires.small), subst Printable (sym f.2) printable))
 
 pub returns-in-Ok-follow : goal.returns-in-Ok-follow
@@ -46,8 +47,8 @@ returns-in-Ok-follow g c =
     let m = run_of g.L.Language g.S.Store in
     let first = m c.in-Ok.run' in
     let is = sym (ap (tried g.L.Language g.S.Store) c.in-Ok.is) ∙ c.new.ensures ∙ same_made _ _ _ _ _ _ c.threads.ensures c.locations.ensures in
-    ap Ok c.accepted.ensures ∙ trace_accepted (made (map g.L.Language.behaves c.args.threads) n l (g.S.Store.capacity c.args.store)) (λ r. trace_judged n l r (cut c.args.file.now (get_or head.sections n nowhere))) (n + 1)
-    first (run_left n l first (cut c.args.file.now (get_or head.sections n nowhere))) (m c.follow.new.run) is c.in-Ok-follow.count
+    ap Ok c.accepted.ensures ∙ trace_accepted (made (map g.L.Language.behaves c.args.threads) n l (g.S.Store.capacity c.args.store)) (λ r. trace_judged n l r (cut c.args.file.now (get_or (elements head.sections) n nowhere))) (n + 1)
+    first (run_left n l first (cut c.args.file.now (get_or (elements head.sections) n nowhere))) (m c.follow.new.run) is c.in-Ok-follow.count
     (subst (λ xs. Follows (trace_judged n l first xs) (run_left n l first xs) (Ok c.in-Ok-follow.count) (m c.follow.new.run)) c.trace.ensures c.in-Ok-follow.ensures.value)
 
 pub returns : goal.returns
@@ -60,5 +61,5 @@ returns g c =
     let is = sym (ap (tried g.L.Language g.S.Store) c.in-Ok.is) ∙ c.new.ensures ∙ same_made _ _ _ _ _ _ c.threads.ensures c.locations.ensures in
     (λ i. Err (record { fault = c.in_section.ensures.fault i; section = c.in_section.ensures.section i; line = c.in_section.ensures.line i }))
     ∙ (λ i. Err (record { fault = c.in-Err-follow.refusal.fault; section = c.threads-in-Err-follow.ensures i + 1; line = c.in-Err-follow.refusal.line }))
-    ∙ trace_refused (made (map g.L.Language.behaves c.args.threads) n l (g.S.Store.capacity c.args.store)) (λ r. trace_judged n l r (cut c.args.file.now (get_or head.sections n nowhere))) (n + 1)
-    first (run_left n l first (cut c.args.file.now (get_or head.sections n nowhere))) (m c.follow.new.run) is c.in-Err-follow.refusal (subst (λ xs. Follows (trace_judged n l first xs) (run_left n l first xs) (Err c.in-Err-follow.refusal) (m c.follow.new.run)) c.trace.ensures c.in-Err-follow.ensures.value)
+    ∙ trace_refused (made (map g.L.Language.behaves c.args.threads) n l (g.S.Store.capacity c.args.store)) (λ r. trace_judged n l r (cut c.args.file.now (get_or (elements head.sections) n nowhere))) (n + 1)
+    first (run_left n l first (cut c.args.file.now (get_or (elements head.sections) n nowhere))) (m c.follow.new.run) is c.in-Err-follow.refusal (subst (λ xs. Follows (trace_judged n l first xs) (run_left n l first xs) (Err c.in-Err-follow.refusal) (m c.follow.new.run)) c.trace.ensures c.in-Err-follow.ensures.value)
