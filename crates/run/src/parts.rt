@@ -4,6 +4,7 @@ ghost use Rattle.std.specs.List.{count_by};
 ghost use Rattle.stores.specs.Views.{Below};
 ghost use Rattle.run.specs.Orders.{AllBelow};
 
+pub use crate::log::Log;
 use lines::scope::Scope;
 use stores::view::View;
 

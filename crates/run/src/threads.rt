@@ -35,7 +35,7 @@ impl<L: Language> Thread<L> {
         ensures { thread_of L.Language self.new ≡ thread_of L.Language other.now }
     {
         self.state = other.state.copy();
-        self.views = other.views;
+        self.views.become_copy(&other.views);
         self.owed = other.owed;
     }
 }

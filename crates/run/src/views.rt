@@ -53,6 +53,16 @@ impl ThreadViews {
         }
     }
 
+    // becomes a copy of the other, one kind of view after another: all at once would be a call of memmove, which
+    // whoever links the judge would have to bring
+    pub(crate) fn become_copy(&mut self, other: &ThreadViews)
+        ensures { views_of self.new ≡ views_of other.now }
+    {
+        self.cur = other.cur;
+        self.acq = other.acq;
+        self.rel = other.rel;
+    }
+
     // the end of cur at a location
     pub(crate) fn seen(&self, location: u8) -> End
         ensures { result ≡ at self.now.cur location }
