@@ -61,6 +61,15 @@ earlier_ordered_from : (y n k : ℕ) (ms : List Message) (es : List Entry) → n
 earlier_ordered_from y n k [] es l = refl
 earlier_ordered_from y n k (m ∷ ms) es l = earlier_ordered_from y n (k + 1) ms (taken y m k es) (omega arith) ∙ earlier_taken y n m k es l
 
+ordered_from_take : (y n j k : ℕ) (ms : List Message) (es : List Entry) → k + j ≡ n → All (λ e. e.number < n) es → earlier n (ordered_from y k ms es) ≡ ordered_from y k (take j ms) es
+ordered_from_take y n zero k ms es l h = earlier_ordered_from y n k ms es (omega arith) ∙ earlier_all n es h
+ordered_from_take y n (suc j) k [] es l h = earlier_all n es h
+ordered_from_take y n (suc j) k (m ∷ ms) es l h = ordered_from_take y n j (k + 1) ms (taken y m k es) (omega arith) (below_taken y n m k es (omega arith) h)
+
+-- dropping from a row is dropping from the list
+pub ordered_take : (y n : ℕ) (ms : List Message) → earlier n (ordered y ms) ≡ ordered y (take n ms)
+ordered_take y n ms = ordered_from_take y n n 0 ms [] (omega arith) tt
+
 -- row y, kept to those that arrived before n for each of the messages that is in it
 abbrev pub kept : ℕ → ℕ → List Message → List Entry → List Entry
 kept y n [] es = es

@@ -1,7 +1,8 @@
 -- An index that has each row of the messages, and how it goes on.
-use Rattle.std.proofs.Common.{◌≡◌, ℕ, zero, suc, ◌<◌, cond, eqb, List, [], ◌∷◌, ◌++◌, length, replicate, get_or, set, take, drop, Ok, Err, Result, sym, refl, ap, ◌∙◌, inl, inr, arith}
-use Rattle.std.proofs.lemmas.List.{get_or-set_same, get_or-set_other, get_or-replicate, ext_get_or}
-use Rattle.std.proofs.lemmas.Bool.{cond-true, cond-false, eq-eqb, ne_eqb, le-ltb, cases_eq, cases_lt}
+use Rattle.std.proofs.Common.{◌≡◌, ℕ, zero, suc, ◌<◌, Bool, true, false, cond, eqb, List, [], ◌∷◌, ◌++◌, length, replicate, get_or, set, take, drop, Ok, Err, Result, sym, refl, ap, ◌∙◌, inl, inr, arith}
+use Rattle.std.specs.Prelude.{nat_lt}
+use Rattle.std.proofs.lemmas.List.{get_or-set_same, get_or-set_other, get_or-replicate, ext_get_or, set-get_or}
+use Rattle.std.proofs.lemmas.Bool.{cond-true, cond-false, eq-eqb, ne_eqb, le-ltb, cases_Bool, cases_eq, cases_lt}
 use Rattle.stores.specs.declared.kept.StoreFault.{StoreFault}
 use Rattle.stores.specs.declared.kept.StoreFault.TheVariants.{Full}
 use Rattle.stores.specs.declared.message.Message.{Message}
@@ -24,6 +25,41 @@ row_kept_in n y r b = elim (cases_eq r y) [
       ap (row_at (only_earlier_in r n b)) (sym e) ∙ kept_here n b.table.rows r ∙ ap (λ z. earlier n (row_at b z)) e ∙ sym (cond-true _ _ _ (eq-eqb r y e))
   | inr ne ↦
       get_or-set_other b.table.rows r y (earlier n (row_at b r)) [] (λ e. ne (sym e)) ∙ sym (cond-false _ _ _ (ne_eqb r y ne))
+]
+
+earlier_twice : (n : ℕ) (es : List Entry) → earlier n (earlier n es) ≡ earlier n es
+earlier_twice n [] = refl
+earlier_twice n (e ∷ es) = elim (cases_Bool (nat_lt e.number n)) [
+  | inl y ↦
+      let here : earlier n (e ∷ es) ≡ e ∷ earlier n es = cond-true (nat_lt e.number n) _ _ y in
+      ap (earlier n) here ∙ cond-true (nat_lt e.number n) _ _ y ∙ ap (λ (l : List Entry). e ∷ l) (earlier_twice n es) ∙ sym here
+  | inr f ↦
+      let here : earlier n (e ∷ es) ≡ earlier n es = cond-false (nat_lt e.number n) _ _ f in
+      ap (earlier n) here ∙ earlier_twice n es ∙ sym here
+]
+
+-- the rows that are marked hold only entries that arrived before n
+abbrev pub Done : ℕ → List Bool → Index → Type 0
+Done n done b = (y : ℕ) → get_or done y false ≡ true → earlier n (row_at b y) ≡ row_at b y
+
+abbrev index_of : List (List Entry) → Index
+index_of w = record { table = record { rows = w } }
+
+-- such a row need not be gone through
+pub done_once : (n y : ℕ) (b : Index) → earlier n (row_at b y) ≡ row_at b y → only_earlier_in y n b ≡ b
+done_once n y b h =
+    ap index_of (ap (set b.table.rows y) h ∙ set-get_or b.table.rows y [])
+
+-- and one that was gone through is such a row, as are those that were
+pub done_more : (n r : ℕ) (done : List Bool) (b : Index) → Done n done b → Done n (set done r true) (only_earlier_in r n b)
+done_more n r done b h y e = elim (cases_eq r y) [
+  | inl same ↦
+      let here : row_at (only_earlier_in r n b) y ≡ earlier n (row_at b y) = row_kept_in n y r b ∙ cond-true _ _ _ (eq-eqb r y same) in
+      ap (earlier n) here ∙ earlier_twice n (row_at b y) ∙ sym here
+  | inr other ↦
+      let here : row_at (only_earlier_in r n b) y ≡ row_at b y = row_kept_in n y r b ∙ cond-false _ _ _ (ne_eqb r y other) in
+      let marked : get_or done y false ≡ true = sym (get_or-set_other done r y true false (λ q. other (sym q))) ∙ e in
+      ap (earlier n) here ∙ h y marked ∙ sym here
 ]
 
 row_kept : (n y : ℕ) (ms : List Message) (b : Index) → row_at (only_earlier n ms b) y ≡ kept y n ms (row_at b y)

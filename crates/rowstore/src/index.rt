@@ -58,12 +58,17 @@ impl Index {
         });
     }
 
-    // drops the entries whose arrival number is n or more, in the rows of these messages
+    // drops the entries whose arrival number is n or more, in the rows of these messages, in one pass over each
     pub(crate) fn keep(&mut self, n: usize, dropped: &[Message])
         ensures { self.new ≡ only_earlier n dropped.now self.old }
     {
+        let mut done = [false; ROWS];
         for message in dropped {
-            self.keep_at(message.location, n);
+            let y = row_of(message.location);
+            if !done[y] {
+                self.keep_at(message.location, n);
+                done[y] = true;
+            }
         }
     }
 
