@@ -38,17 +38,36 @@ struct Packed<'a> {
     rest: &'a [u8],
 }
 
-// The job in front, none where there is no heading of one.
+// The number that the digits among the bytes make. One that is too large wraps round.
+fn number(bytes: &[u8]) -> usize {
+    let mut number: usize = 0;
+    for byte in bytes {
+        if byte.is_ascii_digit() {
+            number = number
+                .wrapping_mul(10)
+                .wrapping_add(usize::from(*byte & 15));
+        }
+    }
+    number
+}
+
+// The job in front, none at the pack's end. A heading that lacks a part, and a job that is cut, count as what
+// is there of them.
 fn first_job(pack: &[u8]) -> Option<Packed<'_>>
     ensures { IfSome result (λ job. length job.rest.now < length pack.now) }
 {
-    let end = pack.iter().position(|byte| *byte == b'\n')?;
+    if pack.is_empty() {
+        return None;
+    }
+    let is_end = |byte: &u8| *byte == b'\n';
+    let end = pack.iter().position(is_end).unwrap_or(pack.len());
     let (heading, after) = pack.split_at(end);
-    let heading = heading.strip_prefix(b"= ")?;
-    let space = heading.iter().rposition(|byte| *byte == b' ')?;
+    let is_space = |byte: &u8| *byte == b' ';
+    let space = heading.iter().rposition(is_space).unwrap_or(heading.len());
     let (name, length) = heading.split_at(space);
-    let length = str::from_utf8(&length[1..]).ok()?.parse::<usize>().ok()?;
-    let (file, rest) = after[1..].split_at_checked(length)?;
+    let job = &after[after.len().min(1)..];
+    let (file, rest) = job.split_at(number(length).min(job.len()));
+    let name = &name[name.len().min(2)..];
     Some(Packed { name, file, rest })
 }
 

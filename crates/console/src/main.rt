@@ -57,14 +57,17 @@ fn main(rt: HostRuntime) -> io::Result<()> {
     rt.stdin()
         .take(MOST_FILE as u64 + 1)
         .read_to_end(&mut file)?;
-    match verdict(&file) {
-        Ok(report) => rt.stdout().write_all(report.as_bytes()),
-        Err(refusal) => {
-            rt.stdout().write_all(refusal.text().as_bytes())?;
-            if wants_report_only(&rt)? {
-                return Ok(());
-            }
-            explain(&rt, &file, refusal)
-        }
+    let found = verdict(&file);
+    match &found {
+        Ok(report) => rt.stdout().write_all(report.as_bytes())?,
+        Err(refusal) => rt.stdout().write_all(refusal.text().as_bytes())?,
+    }
+    // asked after either report: a word that is no text ends the program with an error
+    if wants_report_only(&rt)? {
+        return Ok(());
+    }
+    match found {
+        Ok(_) => Ok(()),
+        Err(refusal) => explain(&rt, &file, refusal),
     }
 }
