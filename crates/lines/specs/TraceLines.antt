@@ -23,14 +23,18 @@ trace_letter kind.Keep = 72
 trace_letter kind.Show = 88
 trace_letter kind.EndTurn = 69
 
+-- the largest end
+abbrev pub most_end : ℕ
+most_end = 65535
+
 abbrev pub trace_limits : ℕ → ℕ → Kind → List ℕ
 trace_limits n l kind.Turn = (n - 1) ∷ []
 trace_limits n l kind.Next = []
-trace_limits n l kind.Read = 65535 ∷ []
-trace_limits n l kind.Write = 65535 ∷ 65535 ∷ []
-trace_limits n l kind.Update = 65535 ∷ 65535 ∷ []
-trace_limits n l kind.Promise = (l - 1) ∷ 65535 ∷ 65535 ∷ 65535 ∷ []
-trace_limits n l kind.Keep = 65535 ∷ []
+trace_limits n l kind.Read = most_end ∷ []
+trace_limits n l kind.Write = most_end ∷ most_end ∷ []
+trace_limits n l kind.Update = most_end ∷ most_end ∷ []
+trace_limits n l kind.Promise = (l - 1) ∷ 65535 ∷ most_end ∷ most_end ∷ []
+trace_limits n l kind.Keep = most_end ∷ []
 trace_limits n l kind.Show = []
 trace_limits n l kind.EndTurn = []
 

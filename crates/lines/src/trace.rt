@@ -1,6 +1,6 @@
 // The lines of a trace.
 ghost use Rattle.std.specs.Prelude.{◌≡◌, ◌≤◌, Some};
-ghost use Rattle.lines.specs.TraceLines.{trace_lines, TraceFits};
+ghost use Rattle.lines.specs.TraceLines.{most_end, trace_lines, TraceFits};
 ghost use Rattle.lines.specs.declared.trace.Line.{Line};
 ghost use Rattle.lines.specs.TraceCodec.{trace_codec};
 
@@ -61,7 +61,7 @@ pub enum Kind {
 
 // The span that two numbers make, none where one is too large for an end.
 fn span_of(from: u32, to: u32) -> Option<Span>
-    ensures { (from ≤ 65535) → (to ≤ 65535) → result ≡ Some (record { from = from; to = to }) }
+    ensures { (from ≤ most_end) → (to ≤ most_end) → result ≡ Some (record { from = from; to = to }) }
 {
     Some(Span {
         from: End::try_from(from).ok()?,

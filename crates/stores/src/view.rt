@@ -21,14 +21,14 @@ impl View {
     }
 
     // {x@t}: the end t at location x, and 0 elsewhere
-    // A product of 16-bit numbers at each location: all eight are made at once, with no jump.
+    // A product at each location: all eight are made at once, with no jump.
     #[inline(always)]
     pub fn single(location: u8, end: End) -> View
         ensures value { result ≡ single location end }
         ensures places { OnlyAt location end result }
     {
         View {
-            ends: array::from_fn(|x| end * u16::from(x as u16 == u16::from(location))),
+            ends: array::from_fn(|x| end * End::from(x as u16 == u16::from(location))),
         }
     }
 
